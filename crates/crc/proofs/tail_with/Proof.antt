@@ -1,0 +1,29 @@
+-- Invariant: the register after all the bytes from `from` on is that after those that are left, from `r`.
+use mathlib.Core.Path.{_≡_, refl}
+use Prim.Native.Nat.{_-_}
+use lib.ListN.{length, drop}
+use borrow.Author.Needs.{needs}
+use Rattle.crc.specs.Crc.{extend}
+use Rattle.crc.proofs.Parts.{turn-one, turns-done}
+use Rattle.crc.proofs.tail_with.Statement.{statement}
+use Rattle.crc.proofs.tail_with.Tie as tie
+
+abbrev Inv-loop : tie.InvT-loop
+Inv-loop t crc bytes from r₀ i₀ r i = extend crc (drop from bytes) ≡ extend r (drop i bytes)
+
+abbrev μ-loop : tie.MeasureT-loop
+μ-loop t crc bytes from r₀ i₀ r i = length bytes - i
+
+loop-holds : tie.Need-loop-holds Inv-loop μ-loop
+loop-holds c = refl
+
+loop-again : tie.Need-loop-again Inv-loop μ-loop
+loop-again c = search turn-one
+
+returns : tie.Need-returns Inv-loop μ-loop
+returns c = search turns-done
+
+pub tail-with-spec : {M : Type 1} → statement M
+tail-with-spec =
+    tie.close
+    (tie.spec Inv-loop μ-loop loop-holds (λ c. search needs) (λ c κs. search needs) (λ c. search needs) (λ c. search needs) loop-again returns)

@@ -1,0 +1,350 @@
+// The reasons of refusals: the place of each string in the list of docs/REASONS.md, which tools/reasons holds this file to.
+pub const INVALID_VOLUME_LABEL: u16 = 1;
+
+pub const TIMESTAMP_SECONDS_OUT_OF_RANGE: u16 = 2;
+
+pub const TIMESTAMP_NANOSECONDS_OUT_OF_RANGE: u16 = 3;
+
+pub const CHECKSUM_GROUP_SLOT: u16 = 4;
+
+pub const DEVICE_HAS_NO_USABLE_BLOCK_RANGE: u16 = 5;
+
+pub const INVALID_TREE_REFERENCE: u16 = 6;
+
+pub const INVALID_WORKSPACE_PAGE_REFERENCE: u16 = 7;
+
+pub const WORKSPACE_KEY_LENGTH: u16 = 8;
+
+pub const INVALID_WORKSPACE_BLOCK: u16 = 9;
+
+pub const WORKSPACE_RUN_LENGTH: u16 = 10;
+
+pub const INVALID_WORKSPACE_RUN_LENGTH: u16 = 11;
+
+pub const WORKSPACE_RUN_LEAVES_THE_VOLUME: u16 = 12;
+
+pub const ZERO_VOLUME_UUID: u16 = 13;
+
+pub const INVALID_ROOT_SLOT: u16 = 14;
+
+pub const INVALID_ROOT_GENERATION_OR_GEOMETRY: u16 = 15;
+
+pub const WORKSPACE_SCAN_CURSOR_EXCEEDS_GEOMETRY: u16 = 16;
+
+pub const INVALID_WORKSPACE_ROOT: u16 = 17;
+
+pub const ROOT_TREE_REFERENCES_SHARE_A_BLOCK: u16 = 18;
+
+pub const ROOT_TREE_GENERATION_IS_NEWER_THAN_ROOT: u16 = 19;
+
+pub const INVALID_NEXT_OBJECT_ID: u16 = 20;
+
+pub const INVALID_NEXT_CLEANUP_JOB_ID: u16 = 21;
+
+pub const FREE_BLOCK_COUNT_EXCEEDS_GEOMETRY: u16 = 22;
+
+pub const ROOT_PAGE_LENGTH: u16 = 23;
+
+pub const ROOT_CHECKSUM: u16 = 24;
+
+pub const ROOT_MAGIC: u16 = 25;
+
+pub const ROOT_REVISION: u16 = 26;
+
+pub const ROOT_RECORD_BYTES: u16 = 27;
+
+pub const ROOT_ALLOCATION_BYTES: u16 = 28;
+
+pub const ROOT_CHECKSUM_UNIT_BYTES: u16 = 29;
+
+pub const ROOT_ENVELOPE: u16 = 30;
+
+pub const ROOT_LABEL_LENGTH: u16 = 31;
+
+pub const ROOT_LABEL_PADDING: u16 = 32;
+
+pub const ROOT_LABEL_UTF_8: u16 = 33;
+
+pub const INVALID_ROOT_LABEL: u16 = 34;
+
+pub const ROOT_UUID: u16 = 35;
+
+pub const ROOT_SELF_BLOCK: u16 = 36;
+
+pub const ROOT_GENERATION: u16 = 37;
+
+pub const ROOT_DEVICE_BLOCKS: u16 = 38;
+
+pub const ROOT_CATALOG_REFERENCE: u16 = 39;
+
+pub const ROOT_ALLOCATION_REFERENCE: u16 = 40;
+
+pub const ROOT_CLEANUP_REFERENCE: u16 = 41;
+
+pub const ROOT_NEXT_OBJECT: u16 = 42;
+
+pub const ROOT_FREE_BLOCKS: u16 = 43;
+
+pub const ROOT_FEATURE_BITS: u16 = 44;
+
+pub const ROOT_FILENAME_PROFILE: u16 = 45;
+
+pub const ROOT_STATE_FLAGS: u16 = 46;
+
+pub const ROOT_MAINTENANCE_RESERVE: u16 = 47;
+
+pub const ROOT_NEXT_JOB: u16 = 48;
+
+pub const ROOT_IDENTITY_OR_GEOMETRY: u16 = 49;
+
+pub const ROOT_WORKSPACE_REFERENCE: u16 = 50;
+
+pub const WORKSPACE_SCAN_CURSOR: u16 = 51;
+
+pub const INVALID_OBJECT_ID: u16 = 52;
+
+pub const CATALOG_KEY_IS_TOO_SHORT: u16 = 53;
+
+pub const CATALOG_OWNER_ID: u16 = 54;
+
+pub const INVALID_CATALOG_KEY: u16 = 55;
+
+pub const TIMESTAMP_SECONDS: u16 = 56;
+
+pub const TIMESTAMP_NANOSECONDS: u16 = 57;
+
+pub const TIMESTAMP_RESERVED_BYTES: u16 = 58;
+
+pub const SYMLINK_TARGET_IS_TOO_LONG: u16 = 59;
+
+pub const INVALID_SYMLINK_TARGET: u16 = 60;
+
+pub const INVALID_INODE_LENGTH: u16 = 61;
+
+pub const INVALID_INODE_TYPE: u16 = 62;
+
+pub const INVALID_INODE_FLAGS_OR_RESERVED_BYTES: u16 = 63;
+
+pub const INODE_PARENT: u16 = 64;
+
+pub const INODE_SIZE: u16 = 65;
+
+pub const INODE_ALLOCATION: u16 = 66;
+
+pub const INODE_CHILD_COUNT: u16 = 67;
+
+pub const INODE_RANGE: u16 = 68;
+
+pub const INODE_TYPE_SPECIFIC_FIELDS: u16 = 69;
+
+pub const DIRECTORY_ENTRY_IS_TOO_SHORT: u16 = 70;
+
+pub const DIRECTORY_TARGET: u16 = 71;
+
+pub const INVALID_DIRECTORY_ENTRY_TYPE: u16 = 72;
+
+pub const DIRECTORY_ENTRY_RESERVED_BYTE: u16 = 73;
+
+pub const DIRECTORY_ENTRY_NAME_LENGTH: u16 = 74;
+
+pub const INVALID_DIRECTORY_ENTRY_NAME: u16 = 75;
+
+pub const EXTENT_LOGICAL_START: u16 = 76;
+
+pub const INVALID_EXTENT_LENGTH: u16 = 77;
+
+pub const EXTENT_PHYSICAL_START: u16 = 78;
+
+pub const EXTENT_BLOCK_COUNT: u16 = 79;
+
+pub const EXTENT_RESERVED_BYTES: u16 = 80;
+
+pub const EXTENT_PHYSICAL_RANGE: u16 = 81;
+
+pub const EXTENT_LOGICAL_RANGE: u16 = 82;
+
+pub const INVALID_EXTENT_RANGE: u16 = 83;
+
+pub const CHECKSUM_GROUP_INDEX: u16 = 84;
+
+pub const INVALID_CHECKSUM_GROUP: u16 = 85;
+
+pub const CHECKSUM_GROUP_IS_NOT_COMPACT: u16 = 86;
+
+pub const HOLE_CHECKSUM_IS_NONZERO: u16 = 87;
+
+pub const ALLOCATION_GROUP_RANGE: u16 = 88;
+
+pub const INVALID_ALLOCATION_GROUP: u16 = 89;
+
+pub const ALLOCATION_GROUP_INDEX: u16 = 90;
+
+pub const ALLOCATION_GROUP_INDEX_OUT_OF_RANGE: u16 = 91;
+
+pub const RESERVED_ALLOCATION_BIT_IS_FREE: u16 = 92;
+
+pub const INVALID_CLEANUP_KEY_LENGTH: u16 = 93;
+
+pub const INVALID_RETIREMENT_RECORD: u16 = 94;
+
+pub const RETIREMENT_GENERATION: u16 = 95;
+
+pub const RETIREMENT_FIRST_BLOCK: u16 = 96;
+
+pub const RETIREMENT_COUNT: u16 = 97;
+
+pub const RETIREMENT_RESERVED_BYTES: u16 = 98;
+
+pub const RETIREMENT_RANGE: u16 = 99;
+
+pub const INVALID_RETIREMENT_RANGE: u16 = 100;
+
+pub const INVALID_DETACHED_TREE_JOB: u16 = 101;
+
+pub const CLEANUP_JOB_ID: u16 = 102;
+
+pub const DETACHED_TREE_OWNER: u16 = 103;
+
+pub const INVALID_DETACHED_TREE_KIND_RANGE: u16 = 104;
+
+pub const DETACHED_TREE_REFERENCE: u16 = 105;
+
+pub const DETACHED_TREE_REFERENCE_IS_NEWER: u16 = 106;
+
+pub const INVALID_ORPHAN_MARKER: u16 = 107;
+
+pub const ORPHAN_OBJECT_ID: u16 = 108;
+
+pub const UNKNOWN_CLEANUP_RECORD_KIND: u16 = 109;
+
+pub const INVALID_RECORD_KEY_LENGTH: u16 = 110;
+
+pub const RECORD_IS_TOO_LARGE: u16 = 111;
+
+pub const UNKNOWN_CATALOG_RECORD_KIND: u16 = 112;
+
+pub const INVALID_ALLOCATION_INTERNAL_KEY: u16 = 113;
+
+pub const ALLOCATION_INTERNAL_KEY: u16 = 114;
+
+pub const ALLOCATION_INTERNAL_KEY_RANGE: u16 = 115;
+
+pub const INVALID_CLEANUP_INTERNAL_KEY: u16 = 116;
+
+pub const CLEANUP_INTERNAL_KEY: u16 = 117;
+
+pub const INVALID_RETIREMENT_GENERATION: u16 = 118;
+
+pub const INVALID_RETIREMENT_BLOCK: u16 = 119;
+
+pub const INTERNAL_VALUE_IS_NOT_A_TREE_REFERENCE: u16 = 120;
+
+pub const INTERNAL_TREE_REFERENCE: u16 = 121;
+
+pub const CHILD_GENERATION_IS_NEWER_THAN_PARENT: u16 = 122;
+
+pub const RECORD_COUNT_EXCEEDS_PAYLOAD: u16 = 123;
+
+pub const PAYLOAD_RANGE: u16 = 124;
+
+pub const RECORD_KEY_LENGTH: u16 = 125;
+
+pub const RECORD_VALUE_LENGTH: u16 = 126;
+
+pub const RECORD_LENGTH: u16 = 127;
+
+pub const RECORD_RANGE: u16 = 128;
+
+pub const RECORD_EXCEEDS_PAYLOAD: u16 = 129;
+
+pub const RECORD_KEYS_ARE_NOT_INCREASING: u16 = 130;
+
+pub const LEAF_DATA_BLOCK_TOTAL_OVERFLOW: u16 = 131;
+
+pub const INTERNAL_CHILDREN_SHARE_A_BLOCK: u16 = 132;
+
+pub const PAYLOAD_HAS_UNCONSUMED_BYTES: u16 = 133;
+
+pub const PAGE_LENGTH: u16 = 134;
+
+pub const INVALID_PARENT_GENERATION: u16 = 135;
+
+pub const INVALID_EXPECTED_PAGE_LEVEL: u16 = 136;
+
+pub const PAGE_CHECKSUM: u16 = 137;
+
+pub const PAGE_MAGIC: u16 = 138;
+
+pub const PAGE_REVISION: u16 = 139;
+
+pub const PAGE_FLAGS: u16 = 140;
+
+pub const PAGE_KIND: u16 = 141;
+
+pub const PAGE_TREE_KIND: u16 = 142;
+
+pub const PAGE_TREE_KIND_MISMATCH: u16 = 143;
+
+pub const PAGE_LEVEL: u16 = 144;
+
+pub const UNEXPECTED_PAGE_LEVEL: u16 = 145;
+
+pub const PAGE_RESERVED_BYTES: u16 = 146;
+
+pub const PAGE_SELF_BLOCK: u16 = 147;
+
+pub const PAGE_GENERATION: u16 = 148;
+
+pub const PAGE_IDENTITY_OR_GENERATION: u16 = 149;
+
+pub const PAGE_UUID: u16 = 150;
+
+pub const PAGE_ENTRY_COUNT: u16 = 151;
+
+pub const PAGE_PAYLOAD_BYTES: u16 = 152;
+
+pub const PAGE_PAYLOAD_LENGTH: u16 = 153;
+
+pub const PAGE_DATA_BLOCK_TOTAL: u16 = 154;
+
+pub const NON_CATALOG_DATA_BLOCK_TOTAL: u16 = 155;
+
+pub const LEAF_DATA_BLOCK_TOTAL: u16 = 156;
+
+pub const PAGE_PADDING: u16 = 157;
+
+pub const INTERNAL_PAGE_HAS_TOO_FEW_CHILDREN: u16 = 158;
+
+pub const DRAFT_ENTRY_COUNT: u16 = 159;
+
+pub const DRAFT_PAYLOAD_BYTES: u16 = 160;
+
+pub const DRAFT_LENGTH: u16 = 161;
+
+pub const DRAFT_PAYLOAD_LENGTH: u16 = 162;
+
+pub const NEITHER_CURRENT_ROOT_IS_VALID: u16 = 163;
+
+pub const ROOT_UUIDS_CONFLICT: u16 = 164;
+
+pub const SAME_GENERATION_ROOTS_CONFLICT: u16 = 165;
+
+pub const TOO_MANY_PAGE_RECORDS: u16 = 166;
+
+pub const RECORD_LENGTH_OVERFLOW: u16 = 167;
+
+pub const PAGE_PAYLOAD_OVERFLOW: u16 = 168;
+
+pub const PAGE_PAYLOAD_IS_TOO_LARGE: u16 = 169;
+
+pub const KEY_LENGTH: u16 = 170;
+
+pub const VALUE_LENGTH: u16 = 171;
+
+pub const LEAF_DATA_BLOCK_TOTAL_EXCEEDS_GEOMETRY: u16 = 172;
+
+pub const PAYLOAD_LENGTH: u16 = 173;
+
+pub const INVALID_INTERNAL_PAGE_LEVEL_OR_AGGREGATE: u16 = 174;
+
+pub const RECORD_COUNT: u16 = 175;

@@ -1,0 +1,144 @@
+-- Strings whose first bytes are as many: their order is that of the big-endian numbers, or of what follows where those are the same.
+use mathlib.Core.Path.{_≡_, refl, sym, _∙_, ap, ap₂}
+use mathlib.Core.Bool.{Bool, false}
+use mathlib.Core.List.{List, [], _∷_, _++_}
+use Prim.Native.Nat.{ℕ, suc, _+_, _-_, _*_, _^_, _≤_, _<_}
+use native.Mathlib.Nat.{suc-inj, suc-mul, pow-succ', mul-le-mul-right}
+use native.Mathlib.Decide.{decLt}
+use native.Mathlib.Omega.{arith}
+use lib.Dec.{lit<, ltb}
+use borrow.Author.Tests.{lt-ltb, le-ltb}
+use lib.ListN.{length, drop, take-append-drop}
+use lib.Seq.{drop-drop}
+use Rattle.octets.specs.Bytes.{Bytes, byteAt, part}
+use Rattle.octets.specs.Number.{big}
+use Rattle.octets.specs.Order.{order, isGreater, FrontSays}
+use Rattle.octets.specs.declared.Front.{Front}
+use Rattle.octets.specs.declared.Order.the-variants.{Less, Greater}
+use Rattle.octets.proofs.Digits.{bytes-part}
+use Rattle.octets.proofs.Join.{part-length}
+use Rattle.octets.proofs.OrderLaws.{less-at, greater-at, less-end, equal-end, less-by, less-on, order-flip, order-front}
+
+bytes-tail : {x : ℕ} {l : List ℕ} → Bytes (x ∷ l) → Bytes l
+bytes-tail h = record { below = λ i. h .below (suc i) }
+
+big-below : (l : List ℕ) → Bytes l → big l < 256 ^ length l
+big-below [] h = lit< tt
+big-below (x ∷ l) h =
+    let a : suc x ≤ 256 = h .below 0 in
+    rw pow-succ' (omega (arith, mul-le-mul-right (256 ^ length l) a, suc-mul x (256 ^ length l), big-below l (bytes-tail h)))
+
+-- of two numbers made of a digit and a rest, the one with the smaller digit is smaller
+digit : (x y p a b : ℕ) → a < p → x < y → x * p + a < y * p + b
+digit x y p a b l m = omega (arith, mul-le-mul-right {m = suc x} {n = y} p m, suc-mul x p)
+
+digit-le : (x y p a b : ℕ) → b < p → x * p + a ≤ y * p + b → x ≤ y
+digit-le x y p a b l m = go (decLt y x)
+  where
+    go : Dec (y < x) → x ≤ y
+    go (yes h) = omega (arith, digit y x p b a l h)
+    go (no h) = omega arith
+
+digits-same : (x y p a b : ℕ) → x ≡ y → x * p + a < y * p + b → a < b
+digits-same x y p a b e m = let f : x * p ≡ y * p = ap (λ (z : ℕ). z * p) e in omega arith
+
+module _ (r t : List ℕ) where
+  pub less-big : (xs ys : List ℕ) → length xs ≡ length ys → Bytes xs → Bytes ys → big xs < big ys → order (xs ++ r) (ys ++ t) ≡ Less
+  less-big [] [] n p q l = absurd (omega arith)
+  less-big [] (y ∷ ys) n p q l = absurd (omega arith)
+  less-big (x ∷ xs) [] n p q l = absurd (omega arith)
+  less-big (x ∷ xs) (y ∷ ys) n p q l = go (decLt x y) (less-big xs ys (suc-inj n) (bytes-tail p) (bytes-tail q))
+    where
+      w : 256 ^ length xs ≡ 256 ^ length ys
+      w = ap (λ (k : ℕ). 256 ^ k) (suc-inj n)
+
+      m : x * 256 ^ length xs + big xs < y * 256 ^ length xs + big ys
+      m = rw (sym w) at l
+
+      le : x ≤ y
+      le = digit-le x y (256 ^ length xs) (big xs) (big ys) (rw w (big-below ys (bytes-tail q))) (omega (arith, m))
+
+      go : Dec (x < y) → (big xs < big ys → order (xs ++ r) (ys ++ t) ≡ Less) → order ((x ∷ xs) ++ r) ((y ∷ ys) ++ t) ≡ Less
+      go (yes h) ih = less-by x y (xs ++ r) (ys ++ t) h
+      go (no h) ih =
+          let e : x ≡ y = omega (arith, le) in
+          less-on x y (xs ++ r) (ys ++ t) e (ih (digits-same x y (256 ^ length xs) (big xs) (big ys) e m))
+
+pub big-same : (xs ys : List ℕ) → length xs ≡ length ys → Bytes xs → Bytes ys → big xs ≡ big ys → xs ≡ ys
+big-same [] [] n p q e = refl
+big-same [] (y ∷ ys) n p q e = let z : _≡_ {A = ℕ} 0 1 = omega arith in cc
+big-same (x ∷ xs) [] n p q e = let z : _≡_ {A = ℕ} 0 1 = omega arith in cc
+big-same (x ∷ xs) (y ∷ ys) n p q e = ap₂ _∷_ same (big-same xs ys (suc-inj n) (bytes-tail p) (bytes-tail q) rest)
+  where
+    w : 256 ^ length xs ≡ 256 ^ length ys
+    w = ap (λ (k : ℕ). 256 ^ k) (suc-inj n)
+
+    m : x * 256 ^ length xs + big xs ≡ y * 256 ^ length xs + big ys
+    m = rw (sym w) at e
+
+    same : x ≡ y
+    same =
+        omega (
+          arith,
+          digit-le x y (256 ^ length xs) (big xs) (big ys) (rw w (big-below ys (bytes-tail q))) (omega (arith, m)),
+          digit-le y x (256 ^ length xs) (big ys) (big xs) (big-below xs (bytes-tail p)) (omega (arith, m)),
+        )
+
+    rest : big xs ≡ big ys
+    rest = omega (arith, m, ap (λ (z : ℕ). z * 256 ^ length xs) same)
+
+-- ---- eight bytes at a place of both strings
+module _ (a b : List ℕ) (i : ℕ) (known : (k : ℕ) → byteAt a k < 256) (known′ : (k : ℕ) → byteAt b k < 256) (fits : 8 ≤ length a - i) (fits′ : 8 ≤ length b - i) where
+  from-here : (s : List ℕ) → drop i s ≡ part s i 8 ++ drop (i + 8) s
+  from-here s = sym (take-append-drop 8 (drop i s)) ∙ rw (drop-drop 8 i s)
+
+  as-many : length (part a i 8) ≡ length (part b i 8)
+  as-many = part-length a i 8 (omega arith) ∙ sym (part-length b i 8 (omega arith))
+
+  bytes-a : Bytes (part a i 8)
+  bytes-a = bytes-part a i 8 (record { below = known })
+
+  bytes-b : Bytes (part b i 8)
+  bytes-b = bytes-part b i 8 (record { below = known′ })
+
+  module _ (x y : ℕ) (is : x ≡ big (part a i 8)) (is′ : y ≡ big (part b i 8)) where
+    pub group-less : x < y → order (drop i a) (drop i b) ≡ Less
+    group-less l = rw (from-here a, from-here b) (less-big (drop (i + 8) a) (drop (i + 8) b) (part a i 8) (part b i 8) as-many bytes-a bytes-b (omega arith))
+
+    pub group-greater : y < x → order (drop i a) (drop i b) ≡ Greater
+    group-greater l = rw (from-here a, from-here b) (order-flip (part b i 8 ++ drop (i + 8) b) (part a i 8 ++ drop (i + 8) a) (less-big (drop (i + 8) b) (drop (i + 8) a) (part b i 8) (part a i 8) (sym as-many) bytes-b bytes-a (omega arith)))
+
+    pub group-same : y ≤ x → x ≤ y → order (drop i a) (drop i b) ≡ order (drop (i + 8) a) (drop (i + 8) b)
+    group-same l m =
+        let e : part a i 8 ≡ part b i 8 = big-same (part a i 8) (part b i 8) as-many bytes-a bytes-b (omega arith) in
+        rw (from-here a, from-here b, e) (order-front (part b i 8) (drop (i + 8) a) (drop (i + 8) b))
+
+    pub group-differs : (x ≡ y → ⊥) → ltb y x ≡ isGreater (order (drop i a) (drop i b))
+    group-differs n = go (decLt y x)
+      where
+        go : Dec (y < x) → ltb y x ≡ isGreater (order (drop i a) (drop i b))
+        go (yes h) = rw (lt-ltb y x h, group-greater h)
+        go (no h) = rw (le-ltb y x (omega arith), group-less (omega arith))
+
+-- ---- one byte at a place of both strings
+pub byte-differs : (a b : List ℕ) (i : ℕ) → i < length a → i < length b → (byteAt a i ≡ byteAt b i → ⊥) → ltb (byteAt b i) (byteAt a i) ≡ isGreater (order (drop i a) (drop i b))
+byte-differs a b i p q n = go (decLt (byteAt b i) (byteAt a i))
+  where
+    go : Dec (byteAt b i < byteAt a i) → ltb (byteAt b i) (byteAt a i) ≡ isGreater (order (drop i a) (drop i b))
+    go (yes h) = rw (lt-ltb (byteAt b i) (byteAt a i) h, greater-at a b i p q h)
+    go (no h) = rw (le-ltb (byteAt b i) (byteAt a i) (omega arith), less-at a b i p q (omega arith))
+
+pub not-above-end : (a b : List ℕ) (i : ℕ) → length a ≤ i → isGreater (order (drop i a) (drop i b)) ≡ false
+not-above-end a b i p = go (decLt i (length b))
+  where
+    go : Dec (i < length b) → isGreater (order (drop i a) (drop i b)) ≡ false
+    go (yes h) = rw (less-end a b i p h)
+    go (no h) = rw (equal-end a b i p (omega arith))
+
+-- ---- what a comparison of the first groups says, by its answer
+module _ (a b : List ℕ) (r : Front) (says : FrontSays a b r) where
+  pub front-decided : (t : Bool) → r ≡ Front.Decided t → t ≡ isGreater (order a b)
+  front-decided t e = rw e at says
+
+  pub front-same : (i : ℕ) → r ≡ Front.Same i → FrontSays a b (Front.Same i)
+  front-same i e = rw e at says

@@ -1,0 +1,10 @@
+pub mod Below
+pub mod Bit
+pub mod Join
+pub mod Digits
+pub mod Padded
+pub mod Within
+pub mod Zero
+pub mod Same
+pub mod OrderLaws
+pub mod BigOrder

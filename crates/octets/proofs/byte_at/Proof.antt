@@ -1,0 +1,10 @@
+use Rattle.octets.proofs.Within.{past}
+use borrow.Author.Needs.{needs}
+use Rattle.octets.proofs.byte_at.Statement.{statement}
+use Rattle.octets.proofs.byte_at.Tie as tie
+
+returns-2 : tie.Need-returns-2
+returns-2 c = search past
+
+pub byte-at-spec : {M : Type 1} → statement M
+byte-at-spec = tie.close (tie.spec (λ c. search needs) (λ c. search needs) returns-2)

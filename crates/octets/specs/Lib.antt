@@ -1,0 +1,5 @@
+pub mod Bytes
+pub mod Number
+pub mod Order
+pub mod Below
+pub mod Reads
