@@ -1,0 +1,7 @@
+pub mod Sums
+pub mod Signed
+pub mod Nul
+pub mod Fields
+pub mod Keys
+pub mod Entries
+pub mod Accept

@@ -1,0 +1,55 @@
+-- Extents (01, section 5).
+use Prim.Native.Nat.{ℕ, _+_, _-_, _^_}
+use mathlib.Core.Bool.{Bool, not, _&&_}
+use mathlib.Core.List.{List, [], _∷_}
+use lib.Dec.{leb, eqb}
+use lib.ListN.{length}
+use Rattle.error.specs.declared.Validation.{Validation}
+use Rattle.error.specs.declared.Number.{Number}
+use Rattle.error.specs.Answer.{violationOf}
+use Rattle.error.specs.Demand.{Demand, _otherwise_, outcome}
+use Rattle.error.specs.Reason as reason
+use Rattle.octets.specs.Number.{u32At, u64At}
+use Rattle.volume.specs.Blocks.{isNonreservedBlock}
+use Rattle.catalog.specs.Keys.{keyNumber}
+use Rattle.catalog.specs.Numbers.{sumFits}
+
+-- the fields of an extent; the first logical block is in its key
+abbrev pub extentLogical : List ℕ → ℕ
+extentLogical key = keyNumber key
+
+abbrev pub extentPhysical : List ℕ → ℕ
+extentPhysical value = u64At value 0
+
+abbrev pub extentCount : List ℕ → ℕ
+extentCount value = u32At value 8
+
+abbrev pub extentReserved : List ℕ → ℕ
+extentReserved value = u32At value 12
+
+-- count blocks from physical on lie outside the reserved blocks
+abbrev pub isNonreservedRun : ℕ → ℕ → ℕ → Bool
+isNonreservedRun physical count blocks = isNonreservedBlock physical blocks && leb (physical + count) (blocks - 512)
+
+-- 01, section 5: an extent's logical end is at most 2^51
+unfoldable pub isExtentRange : ℕ → ℕ → ℕ → ℕ → ℕ → Bool
+isExtentRange logical physical count reserved blocks =
+    not (eqb count 0) && eqb reserved 0 && leb (logical + count) (2 ^ 51) && isNonreservedRun physical count blocks
+
+abbrev pub extentRangeDemands : ℕ → ℕ → ℕ → ℕ → ℕ → Validation → List Demand
+extentRangeDemands logical physical count reserved blocks mode =
+    sumFits physical count otherwise violationOf mode reason.extentPhysicalRange
+    ∷ sumFits logical count otherwise violationOf mode reason.extentLogicalRange
+    ∷ isExtentRange logical physical count reserved blocks otherwise violationOf mode reason.invalidExtentRange
+    ∷ []
+
+-- 01, section 5: a key under 17 bytes is an invalid catalog key, before the value is looked at
+abbrev pub extentDemands : List ℕ → List ℕ → ℕ → Validation → List Demand
+extentDemands key value blocks mode =
+    leb 17 (length key) otherwise violationOf mode reason.invalidCatalogKey
+    ∷ eqb (length value) 16 otherwise violationOf mode reason.invalidExtentLength
+    ∷ extentRangeDemands (extentLogical key) (extentPhysical value) (extentCount value) (extentReserved value) blocks mode
+
+-- the count of its blocks
+unfoldable pub validateExtent : List ℕ → List ℕ → ℕ → Validation → Number
+validateExtent key value blocks mode = outcome (extentDemands key value blocks mode) Number.Refused (Number.Value (extentCount value))

@@ -1,0 +1,59 @@
+-- Owner numbers and keys of the catalog (01, section 5).
+use Prim.Native.Nat.{ℕ, _-_, _^_}
+use mathlib.Core.Bool.{Bool, _&&_, _||_}
+use mathlib.Core.List.{List, [], _∷_}
+use lib.Dec.{leb, eqb}
+use lib.ListN.{length, drop}
+use Rattle.error.specs.declared.Validation.{Validation}
+use Rattle.error.specs.declared.Check.{Check}
+use Rattle.error.specs.declared.Number.{Number}
+use Rattle.error.specs.Answer.{violationOf}
+use Rattle.error.specs.Demand.{Demand, _otherwise_, passing, outcome, demands}
+use Rattle.error.specs.Reason as reason
+use Rattle.octets.specs.Bytes.{byteAt}
+use Rattle.octets.specs.Number.{bigAt}
+use Rattle.utf8.specs.Reading.{utf8}
+
+-- 01, section 5: owner numbers run 1..2^63 - 2
+abbrev pub ownerDemands : ℕ → Validation → List Demand
+ownerDemands owner mode = (leb 1 owner && leb owner (2 ^ 63 - 2)) otherwise violationOf mode reason.invalidObjectId ∷ []
+
+unfoldable pub validateOwnerId : ℕ → Validation → Check
+validateOwnerId owner mode = demands (ownerDemands owner mode)
+
+-- a key of the catalog: the owner's number, the record's kind, and what the kind asks for
+abbrev pub keyOwner : List ℕ → ℕ
+keyOwner key = bigAt key 0
+
+abbrev pub keyKind : List ℕ → ℕ
+keyKind key = byteAt key 8
+
+abbrev pub keyNumber : List ℕ → ℕ
+keyNumber key = bigAt key 9
+
+abbrev pub keyName : List ℕ → List ℕ
+keyName key = drop 9 key
+
+-- an inode's key (1) ends there; an entry's (2) has 1 to 765 bytes of UTF-8; an extent's (3) and a checksum group's (4) have a number of 8 bytes
+abbrev pub isInodeKey : List ℕ → Bool
+isInodeKey key = eqb (keyKind key) 1 && eqb (length key) 9
+
+abbrev pub isEntryKey : List ℕ → Bool
+isEntryKey key = eqb (keyKind key) 2 && leb 10 (length key) && leb (length key) 774 && utf8 (keyName key)
+
+abbrev pub isNumberKey : List ℕ → Bool
+isNumberKey key = (eqb (keyKind key) 3 || eqb (keyKind key) 4) && eqb (length key) 17
+
+unfoldable pub isCatalogKey : List ℕ → Bool
+isCatalogKey key = isInodeKey key || isEntryKey key || isNumberKey key
+
+abbrev pub catalogKeyDemands : List ℕ → Validation → List Demand
+catalogKeyDemands key mode =
+    leb 9 (length key) otherwise violationOf mode reason.catalogKeyIsTooShort
+    ∷ passing (validateOwnerId (keyOwner key) mode)
+    ∷ isCatalogKey key otherwise violationOf mode reason.invalidCatalogKey
+    ∷ []
+
+-- the kind, 1 to 4
+unfoldable pub validateCatalogKey : List ℕ → Validation → Number
+validateCatalogKey key mode = outcome (catalogKeyDemands key mode) Number.Refused (Number.Value (keyKind key))

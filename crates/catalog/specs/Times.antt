@@ -1,0 +1,47 @@
+-- Timestamps (01, section 5): signed seconds from 1970 on, and nanoseconds.
+use Prim.Native.Nat.{ℕ, _+_, _^_}
+use mathlib.Core.Bool.{Bool, cond, _&&_}
+use mathlib.Core.List.{List, [], _∷_}
+use lib.Dec.{leb, ltb, eqb}
+use lib.IntN.{ℤ, pos, negℤ, _-ℤ_}
+use lib.Signed.{leZ}
+use Rattle.error.specs.declared.Validation.{Validation}
+use Rattle.error.specs.declared.Check.{Check}
+use Rattle.error.specs.Answer.{violationOf}
+use Rattle.error.specs.Demand.{Demand, _otherwise_, passing, demands}
+use Rattle.error.specs.Reason as reason
+use Rattle.octets.specs.Number.{u32At, u64At}
+
+-- 01, section 5: seconds -11644473600 to 253402300799 (the years 1601 through 9999)
+unfoldable pub secondsInRange : ℤ → Bool
+secondsInRange seconds = leZ (negℤ (pos 11644473600)) seconds && leZ seconds (pos 253402300799)
+
+-- and nanoseconds to 999999999
+abbrev pub timestampRangeDemands : ℤ → ℕ → Validation → List Demand
+timestampRangeDemands seconds nanos mode =
+    secondsInRange seconds otherwise violationOf mode reason.timestampSecondsOutOfRange
+    ∷ leb nanos 999999999 otherwise violationOf mode reason.timestampNanosecondsOutOfRange
+    ∷ []
+
+unfoldable pub validateTimestampRange : ℤ → ℕ → Validation → Check
+validateTimestampRange seconds nanos mode = demands (timestampRangeDemands seconds nanos mode)
+
+-- a stored word of 64 bits read as signed: from 2^63 on it stands for the word less 2^64
+unfoldable pub signedNumber : ℕ → ℤ
+signedNumber word = cond (ltb word (2 ^ 63)) (pos word) (pos word -ℤ pos (2 ^ 64))
+
+-- a stored timestamp of 16 bytes at an offset: seconds i64, nanoseconds u32, reserved u32
+abbrev pub secondsAt : List ℕ → ℕ → ℤ
+secondsAt value offset = signedNumber (u64At value offset)
+
+abbrev pub nanosAt : List ℕ → ℕ → ℕ
+nanosAt value offset = u32At value (offset + 8)
+
+abbrev pub timestampDemands : List ℕ → ℕ → Validation → List Demand
+timestampDemands value offset mode =
+    passing (validateTimestampRange (secondsAt value offset) (nanosAt value offset) mode)
+    ∷ eqb (u32At value (offset + 12)) 0 otherwise violationOf mode reason.timestampReservedBytes
+    ∷ []
+
+unfoldable pub validateTimestamp : List ℕ → ℕ → Validation → Check
+validateTimestamp value offset mode = demands (timestampDemands value offset mode)

@@ -1,0 +1,8 @@
+-- The [P] cases hold: antt computes each.
+use mathlib.Core.Path.{refl}
+use Rattle.group.specs.Cases.{cases, CasesHold}
+use Rattle.group.specs.Group.{compactGroup, stored}
+
+pub cases-hold : CasesHold
+unfolding cases compactGroup stored
+cases-hold = refl

@@ -1,0 +1,93 @@
+-- What `checksum_slot` answers of an accepted group, stored and expanded.
+use mathlib.Core.Path.{_≡_, refl, sym, ap, _∙_}
+use mathlib.Core.Bool.{Bool, true, false, _||_}
+use mathlib.Core.List.{List}
+use Prim.Native.Nat.{ℕ, _+_, _*_, _≤_, _<_}
+use native.Mathlib.Omega.{arith}
+use borrow.Author.Tests.{lt-ltb, le-ltb, le-leb, eqb-true}
+use lib.Dec.{leb, eqb}
+use lib.ListN.{length}
+use Rattle.error.specs.declared.Error.the-variants.{Corrupt}
+use Rattle.error.specs.declared.Validation.{Validation}
+use Rattle.error.specs.Demand.{outcome}
+use Rattle.error.specs.Reason as reason
+use Rattle.error.proofs.Chain.{all-hold}
+use Rattle.error.proofs.Tests.{and-right}
+use Rattle.octets.specs.Below.{every}
+use Rattle.octets.specs.Bytes.{Bytes}
+use Rattle.octets.specs.Number.{bigAt}
+use Rattle.octets.proofs.Below.{every-at, through-held}
+use Rattle.group.specs.declared.Slot.{Slot}
+use Rattle.group.specs.Group.{present, word, stored, storedBytes, holeZero, isCompact, holesZero, rightSize, maxGroup, checksumSlot, groupDemands, validateChecksumGroup}
+use Rattle.group.specs.Slots.{presence, wordIn}
+use Rattle.group.specs.Agree.{Accepted}
+use Rattle.group.proofs.Bitmap.{stored-le}
+use Rattle.group.proofs.Compact.{sized}
+
+-- ---- an accepted group
+
+pub record Good (g : List ℕ) : Type 0 where
+  pub bytes : Bytes g
+  pub long : 36 ≤ length g
+  pub short : length g ≤ 1056
+  pub ends : length g ≡ 32 + 4 * stored g
+  pub holes : every (holeZero g) (stored g) ≡ true
+
+pub good : (key g : List ℕ) (mode : Validation) → Accepted key g mode → Good g
+unfolding validateChecksumGroup isCompact holesZero
+good key g mode a =
+    let holds = all-hold (groupDemands key g mode) (a .passed) in
+    let size = sized (length g) (and-right (leb (bigAt key 9) maxGroup) (rightSize (length g)) (holds .1 .0)) in
+    record {
+      bytes = a .bytes;
+      long = size .long;
+      short = size .short;
+      ends = eqb-true (length g) (storedBytes g) (holds .1 .1 .0);
+      holes = holds .1 .1 .1 .0;
+    }
+
+-- ---- a slot
+
+module _ (g : List ℕ) (s : ℕ) where
+  pub slot-held : s < 256 → 32 + 4 * s + 4 ≤ length g → present g s ≡ true → checksumSlot g s ≡ Slot.Word (word g s)
+  unfolding checksumSlot outcome
+  slot-held h l p = simp (lt-ltb s 256 h, le-leb 32 (length g) (omega arith), p, le-leb (32 + 4 * s + 4) (length g) l)
+
+  pub slot-hole : s < 256 → 32 ≤ length g → present g s ≡ false → checksumSlot g s ≡ Slot.Hole
+  unfolding checksumSlot outcome
+  slot-hole h l p = simp (lt-ltb s 256 h, le-leb 32 (length g) l, p)
+
+  pub slot-out : 256 ≤ s → checksumSlot g s ≡ Slot.Refused (Corrupt reason.checksumGroupSlot)
+  unfolding checksumSlot outcome
+  slot-out h = simp (le-ltb s 256 h)
+
+module _ (g : List ℕ) (ok : Good g) (s : ℕ) where
+  pub in-stored : s < 256 → present g s ≡ true → s < stored g
+  unfolding stored
+  in-stored h p = through-held (present g) 256 s h p
+
+  pub slot-presence : s < 256 → presence (checksumSlot g s) ≡ present g s
+  slot-presence h = go (present g s) refl
+    where
+      go : (b : Bool) → present g s ≡ b → presence (checksumSlot g s) ≡ b
+      go true p = ap presence (slot-held g s h (omega (arith, ok .ends, in-stored h p)) p)
+      go false p = ap presence (slot-hole g s h (omega (arith, ok .long)) p)
+
+  -- a hole among the stored slots holds zero
+  pub hole-zero : s < stored g → present g s ≡ false → word g s ≡ 0
+  hole-zero l p = go (present g s) (every-at (holeZero g) (stored g) (ok .holes) s l) p
+    where
+      go : (b : Bool) → (b || eqb (word g s) 0) ≡ true → b ≡ false → word g s ≡ 0
+      go true e p = cc
+      go false e p = eqb-true (word g s) 0 e
+
+  -- a stored word is what the slot's answer says, of a hole too
+  pub slot-word : s < stored g → word g s ≡ wordIn (checksumSlot g s)
+  slot-word l = go (present g s) refl
+    where
+      h : s < 256
+      h = omega (arith, stored-le g)
+
+      go : (b : Bool) → present g s ≡ b → word g s ≡ wordIn (checksumSlot g s)
+      go true p = sym (ap wordIn (slot-held g s h (omega (arith, ok .ends)) p))
+      go false p = hole-zero l p ∙ sym (ap wordIn (slot-hole g s h (omega (arith, ok .long)) p))

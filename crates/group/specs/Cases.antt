@@ -1,0 +1,19 @@
+-- The [P] cases of 01, section 6, computed from the definitions; one theorem, `proofs/Cases`, carries them all.
+use mathlib.Core.Path.{_≡_}
+use mathlib.Core.Bool.{Bool, true}
+use mathlib.Core.List.{List, [], _∷_}
+use lib.Dec.{eqb}
+use lib.ListN.{length, replicate}
+use Rattle.error.specs.Demand.{allTrue}
+use Rattle.group.specs.Group.{compactGroup}
+
+unfoldable pub cases : List Bool
+cases =
+    -- byte 0 = 5, rest 0: 44 bytes
+    eqb (length (compactGroup (5 ∷ replicate 1055 0))) 44
+    -- no bit: 32 bytes
+    ∷ eqb (length (compactGroup (replicate 1056 0))) 32
+    ∷ []
+
+abbrev pub CasesHold : Type 0
+CasesHold = allTrue cases ≡ true

@@ -1,0 +1,5 @@
+pub mod Group
+pub mod Slots
+pub mod Accept
+pub mod Agree
+pub mod Cases

@@ -1,0 +1,45 @@
+use Rattle.record.specs.Cleanup.{validateDetachedTree}
+use Rattle.error.proofs.Chain.{chain}
+use Rattle.record.proofs.Fields.{fields}
+use borrow.Author.Needs.{needs}
+use Rattle.record.proofs.validate_detached_tree.Statement.{statement}
+use Rattle.record.proofs.validate_detached_tree.Tie as tie
+
+returns : tie.Need-returns
+unfolding validateDetachedTree
+returns c = search (fields, chain) depth 12
+
+returns-2 : tie.Need-returns-2
+unfolding validateDetachedTree
+returns-2 c = search (fields, chain) depth 12
+
+returns-3 : tie.Need-returns-3
+unfolding validateDetachedTree
+returns-3 c = search (fields, chain) depth 12
+
+returns-4 : tie.Need-returns-4
+unfolding validateDetachedTree
+returns-4 c = search (fields, chain) depth 12
+
+returns-5 : tie.Need-returns-5
+unfolding validateDetachedTree
+returns-5 c = search (fields, chain) depth 12
+
+pub validate-detached-tree-spec : {M : Type 1} → statement M
+validate-detached-tree-spec =
+    tie.close
+    (tie.spec
+    (search needs)
+    returns
+    (search needs)
+    returns-2
+    (search needs)
+    (λ c. search needs)
+    (λ c. search needs)
+    returns-3
+    (search needs)
+    (search needs)
+    returns-4
+    (search needs)
+    (search needs)
+    returns-5)

@@ -1,0 +1,46 @@
+-- The [P] cases of 01, section 5, computed from the definitions; one theorem, `proofs/Cases`, carries them all.
+use Prim.Native.Nat.{ℕ}
+use mathlib.Core.Path.{_≡_}
+use mathlib.Core.Bool.{Bool, true, not}
+use mathlib.Core.List.{List, [], _∷_, _++_}
+use lib.IntN.{pos, negℤ}
+use lib.ListN.{replicate}
+use Rattle.error.specs.declared.Validation.the-variants.{Disk}
+use Rattle.error.specs.Demand.{isPassed, allTrue}
+use Rattle.catalog.specs.Numbers.{checkOf}
+use Rattle.catalog.specs.Times.{validateTimestampRange}
+use Rattle.catalog.specs.Extent.{validateExtent}
+use Rattle.record.specs.Cleanup.{validateCleanupKeyValue}
+
+-- an extent of owner 1 at logical block 0 and physical block 512, and of so many blocks
+abbrev pub extentKey : List ℕ
+extentKey = replicate 7 0 ++ (1 ∷ 3 ∷ replicate 8 0)
+
+abbrev pub extentAt512 : ℕ → List ℕ
+extentAt512 count = 0 ∷ 2 ∷ (replicate 6 0 ++ (count ∷ replicate 7 0))
+
+-- the marker of an orphan
+abbrev pub orphanKey : ℕ → List ℕ
+orphanKey object = 3 ∷ (replicate 7 0 ++ (object ∷ []))
+
+unfoldable pub cases : List Bool
+cases =
+    -- B = 1,025: extent at 512 of count 1 passes, count 2 doesn't
+    isPassed (checkOf (validateExtent extentKey (extentAt512 1) 1025 Disk))
+    ∷ not (isPassed (checkOf (validateExtent extentKey (extentAt512 2) 1025 Disk)))
+    -- seconds -11644473600 pass, one less fails
+    ∷ isPassed (validateTimestampRange (negℤ (pos 11644473600)) 0 Disk)
+    ∷ not (isPassed (validateTimestampRange (negℤ (pos 11644473601)) 0 Disk))
+    -- 253402300799 passes, one more fails
+    ∷ isPassed (validateTimestampRange (pos 253402300799) 0 Disk)
+    ∷ not (isPassed (validateTimestampRange (pos 253402300800) 0 Disk))
+    -- nanoseconds 999999999 pass, 1000000000 fail
+    ∷ isPassed (validateTimestampRange (pos 0) 999999999 Disk)
+    ∷ not (isPassed (validateTimestampRange (pos 0) 1000000000 Disk))
+    -- orphan marker: object 0 fails, object 1 passes
+    ∷ not (isPassed (validateCleanupKeyValue (orphanKey 0) [] 1025 1 Disk))
+    ∷ isPassed (validateCleanupKeyValue (orphanKey 1) [] 1025 1 Disk)
+    ∷ []
+
+abbrev pub CasesHold : Type 0
+CasesHold = allTrue cases ≡ true

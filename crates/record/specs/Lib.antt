@@ -1,0 +1,7 @@
+pub mod Allocation
+pub mod Cleanup
+pub mod Workspace
+pub mod Internal
+pub mod Leaf
+pub mod Accept
+pub mod Cases

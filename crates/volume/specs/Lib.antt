@@ -1,0 +1,4 @@
+pub mod Blocks
+pub mod References
+pub mod Groups
+pub mod Cases

@@ -1,0 +1,66 @@
+-- The checks of block counts, slots and references (01, section 2, and the order of `validate_page_ref` and its like).
+use Prim.Native.Nat.{ℕ}
+use mathlib.Core.Bool.{not, _&&_}
+use mathlib.Core.List.{List, [], _∷_}
+use lib.Dec.{leb, eqb}
+use Rattle.error.specs.declared.Validation.{Validation}
+use Rattle.error.specs.declared.Check.{Check}
+use Rattle.error.specs.Answer.{violationOf}
+use Rattle.error.specs.Demand.{Demand, _otherwise_, passing, demands}
+use Rattle.error.specs.Reason as reason
+use Rattle.octets.specs.Bytes.{allZero}
+use Rattle.volume.specs.Blocks.{isNonreservedBlock, isBankBlock, isRootSlot}
+use Rattle.volume.specs.declared.TreeRef.{TreeRef}
+use Rattle.volume.specs.declared.TreeKind.{TreeKind}
+
+-- 01, section 4: tree kind 1 catalog, 2 allocation, 3 cleanup, 4 workspace
+abbrev pub treeKindValue : TreeKind → ℕ
+treeKindValue TreeKind.Catalog = 1
+treeKindValue TreeKind.Allocation = 2
+treeKindValue TreeKind.Cleanup = 3
+treeKindValue TreeKind.Workspace = 4
+
+-- B is at least 1,024
+unfoldable pub validateBlocks : ℕ → Validation → Check
+validateBlocks blocks mode = demands (leb 1024 blocks otherwise violationOf mode reason.deviceHasNoUsableBlockRange ∷ [])
+
+-- a reference names a generation, and a block that is not reserved
+abbrev pub treeRefDemands : TreeRef → ℕ → Validation → List Demand
+treeRefDemands reference blocks mode =
+    passing (validateBlocks blocks mode)
+    ∷ (not (eqb (reference .generation) 0) && isNonreservedBlock (reference .block) blocks) otherwise violationOf mode reason.invalidTreeReference
+    ∷ []
+
+unfoldable pub validateTreeRef : TreeRef → ℕ → Validation → Check
+validateTreeRef reference blocks mode = demands (treeRefDemands reference blocks mode)
+
+-- a reference to a page of the workspace names a generation, and a bank block
+abbrev pub workspaceRefDemands : TreeRef → ℕ → Validation → List Demand
+workspaceRefDemands reference blocks mode =
+    passing (validateBlocks blocks mode)
+    ∷ (not (eqb (reference .generation) 0) && isBankBlock (reference .block) blocks) otherwise violationOf mode reason.invalidWorkspacePageReference
+    ∷ []
+
+unfoldable pub validateWorkspaceRef : TreeRef → ℕ → Validation → Check
+validateWorkspaceRef reference blocks mode = demands (workspaceRefDemands reference blocks mode)
+
+-- pages of the workspace lie in the banks, those of the other trees outside the reserved blocks
+abbrev pub validatePageRef : TreeRef → TreeKind → ℕ → Validation → Check
+validatePageRef reference TreeKind.Catalog blocks mode = validateTreeRef reference blocks mode
+validatePageRef reference TreeKind.Allocation blocks mode = validateTreeRef reference blocks mode
+validatePageRef reference TreeKind.Cleanup blocks mode = validateTreeRef reference blocks mode
+validatePageRef reference TreeKind.Workspace blocks mode = validateWorkspaceRef reference blocks mode
+
+-- a root stands in one of the two slots
+abbrev pub rootSlotDemands : ℕ → ℕ → Validation → List Demand
+rootSlotDemands slot blocks mode =
+    passing (validateBlocks blocks mode)
+    ∷ isRootSlot slot blocks otherwise violationOf mode reason.invalidRootSlot
+    ∷ []
+
+unfoldable pub validateRootSlot : ℕ → ℕ → Validation → Check
+validateRootSlot slot blocks mode = demands (rootSlotDemands slot blocks mode)
+
+-- a UUID is not all zeros
+unfoldable pub validateUuid : List ℕ → Validation → Check
+validateUuid uuid mode = demands (not (allZero uuid) otherwise violationOf mode reason.zeroVolumeUuid ∷ [])
