@@ -1,0 +1,10 @@
+pub mod Text
+pub mod Numbers
+pub mod Passing
+pub mod Decode
+pub mod Choice
+pub mod LabelAccept
+pub mod Refs
+pub mod Accept
+pub mod Agree
+pub mod Cases

@@ -1,0 +1,7 @@
+pub mod Label
+pub mod Fields
+pub mod Root
+pub mod Select
+pub mod Accept
+pub mod Agree
+pub mod Cases
