@@ -1,0 +1,11 @@
+-- The [P] cases of 01, section 7, hold of the definitions.
+use mathlib.Core.Path.{refl}
+use Rattle.octets.specs.Number.{field}
+use Rattle.octets.specs.Order.{order}
+use Rattle.lookup.specs.Record.{split, look}
+use Rattle.lookup.specs.Floor.{written, unbroken, bisect, walk, floorOf}
+use Rattle.lookup.specs.Cases.{cases, CasesHold}
+
+pub cases-hold : CasesHold
+unfolding cases floorOf written unbroken bisect walk split look order field
+cases-hold = (refl, refl)

@@ -1,0 +1,4 @@
+pub mod Record
+pub mod Floor
+pub mod Sorted
+pub mod Cases

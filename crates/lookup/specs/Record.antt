@@ -1,0 +1,64 @@
+-- A record (01, section 5): u16 key length, u16 value length, key, value.
+use Prim.Native.Nat.{ℕ, _+_}
+use mathlib.Core.List.{List}
+use mathlib.Core.Bool.{Bool, true, false, cond}
+use lib.Dec.{leb}
+use lib.ListN.{length, drop}
+use Rattle.octets.specs.Bytes.{part}
+use Rattle.octets.specs.Number.{u16At}
+use Rattle.octets.specs.Order.{order, isGreater}
+use Rattle.lookup.specs.declared.Split.{Split}
+use Rattle.lookup.specs.declared.Split.the-variants.{Record, Broken}
+use Rattle.lookup.specs.declared.End.{End}
+use Rattle.lookup.specs.declared.Look.{Look}
+use Rattle.lookup.specs.declared.Look.the-variants.{Above, Size}
+
+-- the two lengths of the record at the start of s; bytes past the end count as 0
+abbrev pub keyLen : List ℕ → ℕ
+keyLen s = u16At s 0
+
+abbrev pub valueLen : List ℕ → ℕ
+valueLen s = u16At s 2
+
+-- how many bytes it takes
+abbrev pub recordLen : List ℕ → ℕ
+recordLen s = 4 + keyLen s + valueLen s
+
+-- its key and its value
+abbrev pub keyOf : List ℕ → List ℕ
+keyOf s = part s 4 (keyLen s)
+
+abbrev pub valueOf : List ℕ → List ℕ
+valueOf s = part s (4 + keyLen s) (valueLen s)
+
+-- the record at the start of s, or Broken where s doesn't hold all of it
+unfoldable pub split : List ℕ → Split
+split s = cond (leb (recordLen s) (length s)) (Record (keyLen s) (valueLen s)) Broken
+
+abbrev pub isRecord : Split → Bool
+isRecord (Record k v) = true
+isRecord Broken = false
+
+abbrev pub sizeOf : Split → ℕ
+sizeOf (Record k v) = 4 + k + v
+sizeOf Broken = 0
+
+-- the record at the start of s beside a sought key (01, section 7): a broken record counts as one above it
+abbrev pub lookSplit : List ℕ → List ℕ → Split → Look
+lookSplit s key (Record k v) = cond (isGreater (order (part s 4 k) key)) Above (Size (4 + k + v))
+lookSplit s key Broken = Above
+
+unfoldable pub look : List ℕ → List ℕ → Look
+look s key = lookSplit s key (split s)
+
+abbrev pub isAbove : Look → Bool
+isAbove Above = true
+isAbove (Size n) = false
+
+-- where the record at a place of s ends
+abbrev pub endSplit : ℕ → Split → End
+endSplit at (Record k v) = End.At (at + (4 + k + v))
+endSplit at Broken = End.Broken
+
+unfoldable pub endOf : List ℕ → ℕ → End
+endOf s at = endSplit at (split (drop at s))

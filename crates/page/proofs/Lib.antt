@@ -1,0 +1,4 @@
+pub mod Content
+pub mod Accept
+pub mod Fields
+pub mod Agree

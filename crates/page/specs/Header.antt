@@ -1,0 +1,165 @@
+-- The header of a page (01, section 4): its fields, and the checks of `validate_page_header` in their order.
+use Prim.Native.Nat.{ℕ}
+use mathlib.Core.Bool.{Bool, true, not, _&&_, _||_}
+use mathlib.Core.List.{List, [], _∷_}
+use lib.Dec.{leb, eqb}
+use lib.ListN.{length}
+use Rattle.error.specs.declared.Error.the-variants.{InvalidInput, Corrupt, UnsupportedFormat}
+use Rattle.error.specs.declared.Validation.the-variants.{Input}
+use Rattle.error.specs.declared.Check.{Check}
+use Rattle.error.specs.Demand.{Demand, _otherwise_, passing, demands}
+use Rattle.error.specs.Reason as reason
+use Rattle.octets.specs.Bytes.{byteAt, part, allZero, sameBytes, startsWith}
+use Rattle.octets.specs.Number.{u16At, u32At, u64At}
+use Rattle.crc.specs.Crc.{crc32cWithZero}
+use Rattle.volume.specs.declared.TreeRef.{TreeRef}
+use Rattle.volume.specs.declared.TreeKind.{TreeKind}
+use Rattle.volume.specs.References.{treeKindValue, validateBlocks, validatePageRef, validateUuid}
+use Rattle.page.specs.declared.Expected.{Expected}
+
+-- ---- the fields
+
+-- "CFSXPAGE"
+abbrev pub magic : List ℕ
+magic = 0x43 ∷ 0x46 ∷ 0x53 ∷ 0x58 ∷ 0x50 ∷ 0x41 ∷ 0x47 ∷ 0x45 ∷ []
+
+-- page kind at 12, 1 leaf, 2 internal; tree kind at 13; level at 14
+abbrev pub pageKind : List ℕ → ℕ
+pageKind page = byteAt page 12
+
+abbrev pub treeKind : List ℕ → ℕ
+treeKind page = byteAt page 13
+
+abbrev pub level : List ℕ → ℕ
+level page = byteAt page 14
+
+-- self block at 16, generation at 24, count u16 at 32, payload length u16 at 34, UUID at 40, total u64 at 56
+abbrev pub selfBlock : List ℕ → ℕ
+selfBlock page = u64At page 16
+
+abbrev pub generation : List ℕ → ℕ
+generation page = u64At page 24
+
+abbrev pub count : List ℕ → ℕ
+count page = u16At page 32
+
+abbrev pub payloadLength : List ℕ → ℕ
+payloadLength page = u16At page 34
+
+abbrev pub total : List ℕ → ℕ
+total page = u64At page 56
+
+-- ---- the caller's part
+
+-- a level that is expected is at most 7
+unfoldable pub isLevel : Expected → Bool
+isLevel Expected.Any = true
+isLevel (Expected.Exactly n) = leb n 7
+
+abbrev pub callerDemands : TreeRef → List ℕ → TreeKind → ℕ → Expected → ℕ → List ℕ → List Demand
+callerDemands reference uuid kind parent expected blocks page =
+    eqb (length page) 4096 otherwise Corrupt reason.pageLength
+    ∷ passing (validateBlocks blocks Input)
+    ∷ passing (validatePageRef reference kind blocks Input)
+    ∷ passing (validateUuid uuid Input)
+    ∷ (not (eqb parent 0) && leb (reference .generation) parent) otherwise InvalidInput reason.invalidParentGeneration
+    ∷ isLevel expected otherwise InvalidInput reason.invalidExpectedPageLevel
+    ∷ []
+
+unfoldable pub callerCheck : TreeRef → List ℕ → TreeKind → ℕ → Expected → ℕ → List ℕ → Check
+callerCheck reference uuid kind parent expected blocks page = demands (callerDemands reference uuid kind parent expected blocks page)
+
+-- ---- the stored part
+
+-- checksum u32 at 64, taken with its own four bytes as zero
+unfoldable pub checksumFits : List ℕ → Bool
+checksumFits page = eqb (crc32cWithZero page 64 68) (u32At page 64)
+
+-- the checksum, the magic, revision u16 at 8, flags u16 at 10
+abbrev pub formatDemands : List ℕ → List Demand
+formatDemands page =
+    checksumFits page otherwise Corrupt reason.pageChecksum
+    ∷ startsWith page magic otherwise Corrupt reason.pageMagic
+    ∷ eqb (u16At page 8) 1 otherwise UnsupportedFormat
+    ∷ eqb (u16At page 10) 0 otherwise UnsupportedFormat
+    ∷ []
+
+unfoldable pub formatCheck : List ℕ → Check
+formatCheck page = demands (formatDemands page)
+
+unfoldable pub isPageKind : List ℕ → Bool
+isPageKind page = eqb (pageKind page) 1 || eqb (pageKind page) 2
+
+unfoldable pub isTreeKind : List ℕ → Bool
+isTreeKind page = leb 1 (treeKind page) && leb (treeKind page) 4
+
+-- a leaf's level is 0, an internal page's 1..7
+unfoldable pub levelFits : List ℕ → Bool
+levelFits page =
+    (not (eqb (pageKind page) 1) || eqb (level page) 0) && (not (eqb (pageKind page) 2) || (leb 1 (level page) && leb (level page) 7))
+
+unfoldable pub isExpected : Expected → List ℕ → Bool
+isExpected Expected.Any page = true
+isExpected (Expected.Exactly n) page = eqb n (level page)
+
+-- zeros at 15, 36..39, 68..79
+unfoldable pub reservedZero : List ℕ → Bool
+reservedZero page = eqb (byteAt page 15) 0 && (allZero (part page 36 4) && allZero (part page 68 12))
+
+-- the tree kind is the one that is asked for
+unfoldable pub isOfTree : TreeKind → List ℕ → Bool
+isOfTree kind page = eqb (treeKind page) (treeKindValue kind)
+
+abbrev pub kindDemands : TreeKind → Expected → List ℕ → List Demand
+kindDemands kind expected page =
+    isPageKind page otherwise Corrupt reason.pageKind
+    ∷ isTreeKind page otherwise Corrupt reason.pageTreeKind
+    ∷ isOfTree kind page otherwise Corrupt reason.pageTreeKindMismatch
+    ∷ levelFits page otherwise Corrupt reason.pageLevel
+    ∷ isExpected expected page otherwise Corrupt reason.unexpectedPageLevel
+    ∷ reservedZero page otherwise Corrupt reason.pageReservedBytes
+    ∷ []
+
+unfoldable pub kindCheck : TreeKind → Expected → List ℕ → Check
+kindCheck kind expected page = demands (kindDemands kind expected page)
+
+-- the page is the one that the reference names, and not newer than its parent
+unfoldable pub isReferred : TreeRef → ℕ → List ℕ → Bool
+isReferred reference parent page =
+    eqb (selfBlock page) (reference .block) && (eqb (generation page) (reference .generation) && leb (generation page) parent)
+
+-- UUID at 40
+unfoldable pub hasUuid : List ℕ → List ℕ → Bool
+hasUuid uuid page = sameBytes (part page 40 16) uuid
+
+-- outside the catalog the total is 0
+unfoldable pub totalAllowed : TreeKind → List ℕ → Bool
+totalAllowed TreeKind.Catalog page = true
+totalAllowed TreeKind.Allocation page = eqb (total page) 0
+totalAllowed TreeKind.Cleanup page = eqb (total page) 0
+totalAllowed TreeKind.Workspace page = eqb (total page) 0
+
+abbrev pub identityDemands : TreeRef → List ℕ → TreeKind → ℕ → ℕ → List ℕ → List Demand
+identityDemands reference uuid kind parent blocks page =
+    isReferred reference parent page otherwise Corrupt reason.pageIdentityOrGeneration
+    ∷ hasUuid uuid page otherwise Corrupt reason.pageUuid
+    ∷ leb (payloadLength page) 4016 otherwise Corrupt reason.pagePayloadLength
+    ∷ leb (total page) blocks otherwise Corrupt reason.pageDataBlockTotal
+    ∷ totalAllowed kind page otherwise Corrupt reason.nonCatalogDataBlockTotal
+    ∷ []
+
+unfoldable pub identityCheck : TreeRef → List ℕ → TreeKind → ℕ → ℕ → List ℕ → Check
+identityCheck reference uuid kind parent blocks page = demands (identityDemands reference uuid kind parent blocks page)
+
+-- ---- the header
+
+abbrev pub headerDemands : TreeRef → List ℕ → TreeKind → ℕ → Expected → ℕ → List ℕ → List Demand
+headerDemands reference uuid kind parent expected blocks page =
+    passing (callerCheck reference uuid kind parent expected blocks page)
+    ∷ passing (formatCheck page)
+    ∷ passing (kindCheck kind expected page)
+    ∷ passing (identityCheck reference uuid kind parent blocks page)
+    ∷ []
+
+unfoldable pub validatePageHeader : TreeRef → List ℕ → TreeKind → ℕ → Expected → ℕ → List ℕ → Check
+validatePageHeader reference uuid kind parent expected blocks page = demands (headerDemands reference uuid kind parent expected blocks page)

@@ -1,0 +1,57 @@
+-- Views of pages that are not validated (01, section 4): `verified_page_view` checks only identity, `draft_page_view` only that the bytes are there.
+use Prim.Native.Nat.{ℕ, _+_}
+use mathlib.Core.Bool.{Bool, _&&_}
+use mathlib.Core.List.{List, [], _∷_}
+use lib.Dec.{leb}
+use lib.ListN.{length}
+use Rattle.error.specs.declared.Error.the-variants.{Corrupt}
+use Rattle.error.specs.Demand.{Demand, _otherwise_, outcome}
+use Rattle.error.specs.Reason as reason
+use Rattle.octets.specs.Number.{within}
+use Rattle.volume.specs.declared.TreeRef.{TreeRef}
+use Rattle.volume.specs.declared.TreeKind.{TreeKind}
+use Rattle.page.specs.declared.Expected.{Expected}
+use Rattle.page.specs.declared.Page.{Page}
+use Rattle.page.specs.Header.{level, count, payloadLength, isReferred, isOfTree, isExpected, hasUuid}
+use Rattle.page.specs.Page.{refusedPage, acceptedPage}
+
+-- the page is the one that is asked for
+unfoldable pub isAskedFor : TreeRef → List ℕ → TreeKind → ℕ → Expected → List ℕ → Bool
+isAskedFor reference uuid kind parent expected page =
+    isReferred reference parent page
+    && (isOfTree kind page && (isExpected expected page && hasUuid uuid page))
+
+-- the Rust's order: the level's byte, the generation, identity, the payload; the other reads lie within these
+abbrev pub verifiedDemands : TreeRef → List ℕ → TreeKind → ℕ → Expected → List ℕ → List Demand
+verifiedDemands reference uuid kind parent expected page =
+    leb 15 (length page) otherwise Corrupt reason.pageLength
+    ∷ within page 24 8 otherwise Corrupt reason.pageGeneration
+    ∷ isAskedFor reference uuid kind parent expected page otherwise Corrupt reason.pageIdentityOrGeneration
+    ∷ within page 80 (payloadLength page) otherwise Corrupt reason.pagePayloadLength
+    ∷ []
+
+unfoldable pub verifiedPageView : TreeRef → List ℕ → TreeKind → ℕ → Expected → List ℕ → Page
+verifiedPageView reference uuid kind parent expected page =
+    outcome (verifiedDemands reference uuid kind parent expected page) refusedPage (acceptedPage page)
+
+-- a page that is still being built: its count, its payload length and its payload are there; the total is not read
+abbrev pub draftDemands : List ℕ → List Demand
+draftDemands page =
+    within page 32 2 otherwise Corrupt reason.draftEntryCount
+    ∷ within page 34 2 otherwise Corrupt reason.draftPayloadBytes
+    ∷ within page 80 (payloadLength page) otherwise Corrupt reason.draftPayloadLength
+    ∷ []
+
+abbrev pub draftNumbers : List ℕ → Page
+draftNumbers page = record {
+  class = 0;
+  reason = 0;
+  level = level page;
+  «data_blocks» = 0;
+  count = count page;
+  start = 80;
+  end = 80 + payloadLength page;
+}
+
+unfoldable pub draftPageView : List ℕ → Page
+draftPageView page = outcome (draftDemands page) refusedPage (draftNumbers page)

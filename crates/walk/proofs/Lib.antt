@@ -1,0 +1,12 @@
+pub mod Forms
+pub mod Joins
+pub mod Children
+pub mod Own
+pub mod Turns
+pub mod Going
+pub mod Loops
+pub mod Whole
+pub mod Stored
+pub mod Lists
+pub mod Found
+pub mod Walked

@@ -1,0 +1,290 @@
+-- An accepted walk reads a list of entries laid end to end, and such a list is accepted.
+use mathlib.Core.Path.{_≡_, refl, sym, ap, ap₂, subst, _∙_}
+use mathlib.Core.Logic.{inl, inr}
+use mathlib.Core.Bool.{Bool, true, false, not}
+use mathlib.Core.List.{List, [], _∷_, _++_, append-assoc}
+use Prim.Native.Nat.{ℕ, zero, suc, _+_, _-_, _*_, _/_, _^_, _≤_, _<_}
+use native.Mathlib.Omega.{arith}
+use borrow.Author.Tests.{le-leb, leb-true, lt-ltb, ltb-true, eq-eqb, eqb-true, not-true}
+use lib.Dec.{leb, eqb}
+use lib.ListN.{length, take, drop, length-drop, length-append, length-take, take-append-drop}
+use lib.Seq.{take-add, getD-drop, take-append-seam, drop-append-seam}
+use Rattle.error.specs.declared.Validation.{Validation}
+use Rattle.error.specs.declared.Check.{Check}
+use Rattle.error.specs.declared.Check.the-variants.{Passed, Refused}
+use Rattle.error.specs.declared.Number.{Number}
+use Rattle.error.specs.Answer.{violationOf, numberCheck, valueOf as numberOf}
+use Rattle.error.specs.Demand.{Demand, _otherwise_, outcome, demands, AllHold}
+use Rattle.error.specs.Reason as reason
+use Rattle.error.proofs.Tests.{and-both}
+use Rattle.error.proofs.Chain.{all-hold, all-pass, passed-is, passed-test, by, outcome-by, outcome-holds}
+use Rattle.octets.specs.Bytes.{Bytes}
+use Rattle.octets.proofs.Digits.{bytes-part}
+use Rattle.octets.specs.Order.{order, isLess}
+use Rattle.octets.specs.declared.Order.the-variants.{Less}
+use Rattle.lookup.specs.Record.{keyLen, valueLen, recordLen, keyOf, valueOf}
+use Rattle.walk.specs.Records.{Own, formDemands, formCheck, among, nextTotal, nextBlocks, joinDemands, joinCheck, ownAnswer, recordDemands, walk, sizeDemands, records}
+use Rattle.walk.specs.Entries.{Entry, stored, laid, Increasing, Among, Fit, numbers, sum, Fresh, Walked, WalkedExactly}
+use Rattle.walk.proofs.Stored.{key-read, value-read, stored-length, key-stored, value-stored, entryOf, key-length, value-length, stored-front}
+use Rattle.walk.proofs.Turns.{Formed, formed}
+
+-- all demands held, and the answer stands
+pub answered : (ds : List Demand) (r : Number) (n : ℕ) → outcome ds Number.Refused r ≡ Number.Value n → AllHold ds × (r ≡ Number.Value n)
+answered ds r n e = go (demands ds) refl (sym (outcome-by ds Number.Refused r) ∙ e)
+  where
+    go : (c : Check) → demands ds ≡ c → by c Number.Refused r ≡ Number.Value n → AllHold ds × (r ≡ Number.Value n)
+    go Passed p f = (all-hold ds p, f)
+    go (Refused x) p f = let z : _≡_ {A = ℕ} 0 1 = cc in absurd (omega arith)
+
+-- what is read from here on
+record From (leaf : Bool) (own : Own) (rest : List ℕ) (left n : ℕ) (previous : List ℕ) (total : ℕ) (blocks : List ℕ) (answer : ℕ) : Type 0 where
+  entries : List Entry
+  many : length entries ≡ n
+  are : laid entries ≡ take left rest
+  increasing : Increasing previous entries
+  fit : (e : Entry) → Among e entries → Fit e
+  obey : (e : Entry) → Among e entries → numberCheck (own (e .key) (e .value)) ≡ Passed
+  leaf-total : leaf ≡ true → answer ≡ total + sum (numbers own entries)
+  leaf-small : leaf ≡ true → total < 2 ^ 64 → answer < 2 ^ 64
+  internal-total : leaf ≡ false → answer ≡ total
+  distinct : leaf ≡ false → Fresh blocks (numbers own entries)
+
+pub bytes-drop : (s : List ℕ) (n : ℕ) → Bytes s → Bytes (drop n s)
+bytes-drop s n b = record { below = λ i. omega (arith, getD-drop n s i 0, b .below (n + i)) }
+
+none-left : (leaf : Bool) (own : Own) (rest : List ℕ) (left : ℕ) (previous : List ℕ) (total : ℕ) (blocks : List ℕ) (answer : ℕ) → left ≡ 0 → total ≡ answer → From leaf own rest left 0 previous total blocks answer
+none-left leaf own rest left previous total blocks answer z t = record {
+  entries = [];
+  many = refl;
+  are = sym (ap (λ (n : ℕ). take n rest) z);
+  increasing = tt;
+  fit = λ e m. absurd m;
+  obey = λ e m. absurd m;
+  leaf-total = λ p. omega arith;
+  leaf-small = λ p l. omega arith;
+  internal-total = λ p. sym t;
+  distinct = λ p. tt;
+}
+
+-- what the last check of a record says: a child's block is none of those before it, a leaf's total stays small
+fresh-block : (mode : Validation) (total : ℕ) (blocks : List ℕ) (n : ℕ) → joinCheck false total blocks n mode ≡ Passed → among n blocks ≡ false
+unfolding joinCheck
+fresh-block mode total blocks n e = not-true (among n blocks) (all-hold (joinDemands false total blocks n mode) e .0)
+
+small-total : (mode : Validation) (total : ℕ) (blocks : List ℕ) (n : ℕ) → joinCheck true total blocks n mode ≡ Passed → total + n < 2 ^ 64
+unfolding joinCheck
+small-total mode total blocks n e = ltb-true (total + n) (2 ^ 64) (all-hold (joinDemands true total blocks n mode) e .0)
+
+members : (f : Entry → Type 0) (e : Entry) (es : List Entry) → f e → ((x : Entry) → Among x es → f x) → (x : Entry) → Among x (e ∷ es) → f x
+members f e es h k x (inl p) = subst f (sym p) h
+members f e es h k x (inr m) = k x m
+
+module _ (leaf : Bool) (mode : Validation) (own : Own) (rest : List ℕ) (left n : ℕ) (previous : List ℕ) (total : ℕ) (blocks : List ℕ) (answer : ℕ) where
+  one-more : Bytes rest → left ≤ length rest → Formed rest left previous mode → numberCheck (ownAnswer own rest) ≡ Passed → joinCheck leaf total blocks (numberOf (ownAnswer own rest)) mode ≡ Passed
+      → From leaf own (drop (recordLen rest) rest) (left - recordLen rest) n (keyOf rest) (nextTotal leaf total (numberOf (ownAnswer own rest))) (nextBlocks leaf blocks (numberOf (ownAnswer own rest))) answer
+      → From leaf own rest left (suc n) previous total blocks answer
+  one-more b l f o j more =
+      let inside = f .inside in
+      let fits : recordLen rest ≤ length rest = omega arith in
+      let e : Entry = entryOf rest in
+      let m : ℕ = numberOf (ownAnswer own rest) in
+      let cut : left ≡ recordLen rest + (left - recordLen rest) = omega arith in
+      record {
+        entries = e ∷ more .entries;
+        many = ap suc (more .many);
+        are = ap₂ _++_ (stored-front rest b fits) (more .are) ∙ sym (ap (λ (m : ℕ). take m rest) cut ∙ take-add (recordLen rest) (left - recordLen rest) rest);
+        increasing = (f .above, more .increasing);
+        fit = members Fit e (more .entries) (record {
+          key-low = omega (arith, f .key-low, key-length rest fits);
+          key-high = omega (arith, f .key-high, key-length rest fits);
+          size = omega (arith, f .small, key-length rest fits, value-length rest fits);
+          key-bytes = bytes-part rest 4 (keyLen rest) b;
+          value-bytes = bytes-part rest (4 + keyLen rest) (valueLen rest) b;
+        }) (more .fit);
+        obey = members (λ (x : Entry). numberCheck (own (x .key) (x .value)) ≡ Passed) e (more .entries) o (more .obey);
+        leaf-total = λ p.
+            let t : nextTotal leaf total m ≡ total + m = ap (λ (x : Bool). nextTotal x total m) p in
+            omega (arith, more .leaf-total p);
+        leaf-small = λ p t.
+            let x : nextTotal leaf total m ≡ total + m = ap (λ (x : Bool). nextTotal x total m) p in
+            let y : total + m < 2 ^ 64 = small-total mode total blocks m (subst (λ (x : Bool). joinCheck x total blocks m mode ≡ Passed) p j) in
+            more .leaf-small p (omega arith);
+        internal-total = λ p. more .internal-total p ∙ ap (λ (x : Bool). nextTotal x total m) p;
+        distinct = λ p. (
+          fresh-block mode total blocks m (subst (λ (x : Bool). joinCheck x total blocks m mode ≡ Passed) p j),
+          subst (λ (s : List ℕ). Fresh s (numbers own (more .entries))) (ap (λ (x : Bool). nextBlocks x blocks m) p) (more .distinct p),
+        );
+      }
+
+walk-from : (leaf : Bool) (mode : Validation) (own : Own) (n : ℕ) (rest : List ℕ) (left : ℕ) (previous : List ℕ) (total : ℕ) (blocks : List ℕ) (answer : ℕ)
+    → Bytes rest → left ≤ length rest → walk leaf mode own n rest left previous total blocks ≡ Number.Value answer → From leaf own rest left n previous total blocks answer
+unfolding walk
+walk-from leaf mode own zero rest left previous total blocks answer b l e =
+    let a = answered (eqb left 0 otherwise violationOf mode reason.payloadHasUnconsumedBytes ∷ []) (Number.Value total) answer e in
+    let v : Number.Value total ≡ Number.Value answer = a .1 in
+    let t : total ≡ answer = cc in
+    none-left leaf own rest left previous total blocks answer (eqb-true left 0 (a .0 .0)) t
+walk-from leaf mode own (suc n) rest left previous total blocks answer b l e =
+    let size : ℕ = recordLen rest in
+    let m : ℕ = numberOf (ownAnswer own rest) in
+    let more : ℕ = nextTotal leaf total m in
+    let seen : List ℕ = nextBlocks leaf blocks m in
+    let a = answered (recordDemands leaf mode own rest left previous total blocks) (walk leaf mode own n (drop size rest) (left - size) (keyOf rest) more seen) answer e in
+    one-more leaf mode own rest left n previous total blocks answer b l (formed rest left previous mode (passed-is (formCheck rest left previous mode) (a .0 .0)))
+    (passed-is (numberCheck (ownAnswer own rest)) (a .0 .1 .0)) (passed-is (joinCheck leaf total blocks m mode) (a .0 .1 .1 .0))
+    (walk-from leaf mode own n (drop size rest) (left - size) (keyOf rest) more seen answer (bytes-drop rest size b) (rw length-drop (omega arith)) (a .1))
+
+pub walk-reads : (leaf : Bool) (mode : Validation) (own : Own) (rest : List ℕ) (payload count total : ℕ) → Bytes rest → records leaf mode own rest payload count ≡ Number.Value total → Walked leaf own rest payload count total
+unfolding records
+walk-reads leaf mode own rest payload count total b e =
+    let a = answered (sizeDemands rest payload count mode) (walk leaf mode own count rest payload [] 0 []) total e in
+    let l : payload ≤ length rest = leb-true payload (length rest) (a .0 .1 .0) in
+    let f = walk-from leaf mode own count rest payload [] 0 [] total b l (a .1) in
+    record {
+      inside = l;
+      read = record { entries = f .entries; many = f .many; are = f .are; increasing = f .increasing; fit = f .fit };
+      obey = f .obey;
+      leaf-total = λ p. omega (arith, f .leaf-total p);
+      leaf-small = λ p. f .leaf-small p (omega arith);
+      internal-total = f .internal-total;
+      distinct = f .distinct;
+    }
+
+-- ---- such a list is accepted
+
+-- each record takes four bytes or more
+laid-long : (es : List Entry) → 4 * length es ≤ length (laid es)
+laid-long [] = omega arith
+laid-long (e ∷ es) = omega (arith, laid-long es, stored-length e [], length-append (stored e) (laid es))
+
+-- what is left of the payload starts with an entry
+module _ (e : Entry) (es : List Entry) (rest : List ℕ) (left : ℕ) (l : left ≤ length rest) (are : laid (e ∷ es) ≡ take left rest) where
+  abbrev behind : List ℕ
+  behind = laid es ++ drop left rest
+
+  front : rest ≡ stored e ++ behind
+  front = sym (take-append-drop left rest) ∙ ap (λ (s : List ℕ). s ++ drop left rest) (sym are) ∙ append-assoc (stored e) (laid es) (drop left rest)
+
+  key-is : keyOf rest ≡ e .key
+  key-is = ap keyOf front ∙ key-stored e behind
+
+  value-is : valueOf rest ≡ e .value
+  value-is = ap valueOf front ∙ value-stored e behind
+
+  size-is : recordLen rest ≡ length (stored e)
+  size-is = omega (arith, ap keyLen front, key-read e behind, ap valueLen front, value-read e behind, stored-length e behind)
+
+  -- all of it is left, and then the other entries
+  left-is : left ≡ length (stored e) + length (laid es)
+  left-is = omega (arith, length-take left rest, ap length are, length-append (stored e) (laid es))
+
+  rest-are : laid es ≡ take (left - recordLen rest) (drop (recordLen rest) rest)
+  rest-are =
+      let n : left - recordLen rest ≡ length (laid es) = omega (arith, left-is, size-is) in
+      let d : drop (recordLen rest) rest ≡ behind = ap₂ (λ (m : ℕ) (s : List ℕ). drop m s) size-is front ∙ drop-append-seam (stored e) behind in
+      sym (ap₂ (λ (m : ℕ) (s : List ℕ). take m s) n d ∙ ahead)
+    where
+      ahead : take (length (laid es)) behind ≡ laid es
+      ahead = take-append-seam (laid es) (drop left rest)
+
+  form-holds : (previous : List ℕ) (mode : Validation) → Fit e → order previous (e .key) ≡ Less → formCheck rest left previous mode ≡ Passed
+  unfolding formCheck
+  form-holds previous mode f o =
+      let k : keyLen rest ≡ length (e .key) = ap keyLen front ∙ key-read e behind in
+      let v : valueLen rest ≡ length (e .value) = ap valueLen front ∙ value-read e behind in
+      all-pass (formDemands rest left previous mode) (
+        le-leb 2 (length rest) (omega (arith, size-is, left-is)),
+        (
+          le-leb 4 (length rest) (omega (arith, size-is, left-is)),
+          (
+            and-both (leb 1 (keyLen rest)) (leb (keyLen rest) 1024) (le-leb 1 (keyLen rest) (omega (arith, f .key-low))) (le-leb (keyLen rest) 1024 (omega (arith, f .key-high))),
+            (
+              le-leb (recordLen rest) 3072 (omega (arith, f .size)),
+              (
+                le-leb (recordLen rest) left (omega (arith, size-is, left-is)),
+                (
+                  ap isLess (ap (order previous) key-is ∙ o),
+                  tt,
+                ),
+              ),
+            ),
+          ),
+        ),
+      )
+
+  -- the number of the record at the front is its entry's
+  number-is : (own : Own) → ownAnswer own rest ≡ own (e .key) (e .value)
+  number-is own = ap₂ own key-is value-is
+
+join-leaf : (mode : Validation) (total : ℕ) (blocks : List ℕ) (n : ℕ) → total + n < 2 ^ 64 → joinCheck true total blocks n mode ≡ Passed
+unfolding joinCheck
+join-leaf mode total blocks n h = all-pass (joinDemands true total blocks n mode) (lt-ltb (total + n) (2 ^ 64) h, tt)
+
+join-child : (mode : Validation) (total : ℕ) (blocks : List ℕ) (n : ℕ) → among n blocks ≡ false → joinCheck false total blocks n mode ≡ Passed
+unfolding joinCheck
+join-child mode total blocks n h = all-pass (joinDemands false total blocks n mode) (ap not h, tt)
+
+-- what an accepted walk owes of the numbers from here on
+record Owed (leaf : Bool) (own : Own) (es : List Entry) (total : ℕ) (blocks : List ℕ) (answer : ℕ) : Type 0 where
+  leaf-total : leaf ≡ true → answer ≡ total + sum (numbers own es)
+  leaf-small : leaf ≡ true → answer < 2 ^ 64
+  internal-total : leaf ≡ false → answer ≡ total
+  distinct : leaf ≡ false → Fresh blocks (numbers own es)
+
+owed-join : (leaf : Bool) (mode : Validation) (own : Own) (e : Entry) (es : List Entry) (total : ℕ) (blocks : List ℕ) (answer : ℕ) → Owed leaf own (e ∷ es) total blocks answer
+    → joinCheck leaf total blocks (numberOf (own (e .key) (e .value))) mode ≡ Passed
+owed-join true mode own e es total blocks answer h = join-leaf mode total blocks (numberOf (own (e .key) (e .value))) (omega (arith, h .leaf-total refl, h .leaf-small refl))
+owed-join false mode own e es total blocks answer h = join-child mode total blocks (numberOf (own (e .key) (e .value))) (h .distinct refl .0)
+
+owed-on : (leaf : Bool) (own : Own) (e : Entry) (es : List Entry) (total : ℕ) (blocks : List ℕ) (answer : ℕ) → Owed leaf own (e ∷ es) total blocks answer
+    → Owed leaf own es (nextTotal leaf total (numberOf (own (e .key) (e .value)))) (nextBlocks leaf blocks (numberOf (own (e .key) (e .value)))) answer
+owed-on true own e es total blocks answer h = record {
+  leaf-total = λ p. omega (arith, h .leaf-total refl);
+  leaf-small = h .leaf-small;
+  internal-total = λ p. let z : _≡_ {A = ℕ} 0 1 = cc in absurd (omega arith);
+  distinct = λ p. let z : _≡_ {A = ℕ} 0 1 = cc in absurd (omega arith);
+}
+owed-on false own e es total blocks answer h = record {
+  leaf-total = λ p. let z : _≡_ {A = ℕ} 0 1 = cc in absurd (omega arith);
+  leaf-small = h .leaf-small;
+  internal-total = h .internal-total;
+  distinct = λ p. h .distinct refl .1;
+}
+
+owed-end : (leaf : Bool) (own : Own) (total : ℕ) (blocks : List ℕ) (answer : ℕ) → Owed leaf own [] total blocks answer → total ≡ answer
+owed-end true own total blocks answer h = omega (arith, h .leaf-total refl)
+owed-end false own total blocks answer h = sym (h .internal-total refl)
+
+walk-to : (leaf : Bool) (mode : Validation) (own : Own) (es : List Entry) (rest : List ℕ) (left : ℕ) (previous : List ℕ) (total : ℕ) (blocks : List ℕ) (answer : ℕ)
+    → left ≤ length rest → laid es ≡ take left rest → Increasing previous es → ((e : Entry) → Among e es → Fit e) → ((e : Entry) → Among e es → numberCheck (own (e .key) (e .value)) ≡ Passed)
+    → Owed leaf own es total blocks answer → walk leaf mode own (length es) rest left previous total blocks ≡ Number.Value answer
+unfolding walk
+walk-to leaf mode own [] rest left previous total blocks answer l are inc fit obey owed =
+    outcome-holds (eqb left 0 otherwise violationOf mode reason.payloadHasUnconsumedBytes ∷ []) Number.Refused (Number.Value total) (eq-eqb left 0 (omega (arith, length-take left rest, ap length are)), tt)
+    ∙ ap Number.Value (owed-end leaf own total blocks answer owed)
+walk-to leaf mode own (e ∷ es) rest left previous total blocks answer l are inc fit obey owed =
+    let o : ownAnswer own rest ≡ own (e .key) (e .value) = number-is e es rest left l are own in
+    let n : numberOf (ownAnswer own rest) ≡ numberOf (own (e .key) (e .value)) = ap numberOf o in
+    let f : formCheck rest left previous mode ≡ Passed = form-holds e es rest left l are previous mode (fit e (inl refl)) (inc .0) in
+    let j : joinCheck leaf total blocks (numberOf (ownAnswer own rest)) mode ≡ Passed = ap (λ (m : ℕ). joinCheck leaf total blocks m mode) n ∙ owed-join leaf mode own e es total blocks answer owed in
+    let more : Owed leaf own es (nextTotal leaf total (numberOf (ownAnswer own rest))) (nextBlocks leaf blocks (numberOf (ownAnswer own rest))) answer =
+    subst (λ (m : ℕ). Owed leaf own es (nextTotal leaf total m) (nextBlocks leaf blocks m) answer) (sym n) (owed-on leaf own e es total blocks answer owed) in
+    outcome-holds (recordDemands leaf mode own rest left previous total blocks) Number.Refused
+    (walk leaf mode own (length es) (drop (recordLen rest) rest) (left - recordLen rest) (keyOf rest) (nextTotal leaf total (numberOf (ownAnswer own rest))) (nextBlocks leaf blocks (numberOf (ownAnswer own rest))))
+    (passed-test (formCheck rest left previous mode) f, (passed-test (numberCheck (ownAnswer own rest)) (ap numberCheck o ∙ obey e (inl refl)), (passed-test (joinCheck leaf total blocks (numberOf (ownAnswer own rest)) mode) j, tt)))
+    ∙ walk-to leaf mode own es (drop (recordLen rest) rest) (left - recordLen rest) (keyOf rest) (nextTotal leaf total (numberOf (ownAnswer own rest))) (nextBlocks leaf blocks (numberOf (ownAnswer own rest))) answer
+    (rw length-drop (omega arith)) (rest-are e es rest left l are) (subst (λ (k : List ℕ). Increasing k es) (sym (key-is e es rest left l are)) (inc .1))
+    (λ x m. fit x (inr m)) (λ x m. obey x (inr m)) more
+
+walk-accepts : (leaf : Bool) (mode : Validation) (own : Own) (rest : List ℕ) (payload count total : ℕ) → Walked leaf own rest payload count total → records leaf mode own rest payload count ≡ Number.Value total
+unfolding records
+walk-accepts leaf mode own rest payload count total w =
+    let es : List Entry = w .read .entries in
+    let few : count ≤ payload / 4 = omega (arith, w .inside, w .read .many, laid-long (w .read .entries), ap length (w .read .are), length-take payload rest) in
+    outcome-holds (sizeDemands rest payload count mode) Number.Refused (walk leaf mode own count rest payload [] 0 []) (le-leb count (payload / 4) few, (le-leb payload (length rest) (w .inside), tt))
+    ∙ ap (λ (n : ℕ). walk leaf mode own n rest payload [] 0 []) (sym (w .read .many))
+    ∙ walk-to leaf mode own (w .read .entries) rest payload [] 0 [] total (w .inside) (w .read .are) (w .read .increasing) (w .read .fit) (w .obey)
+    (record { leaf-total = λ p. omega (arith, w .leaf-total p); leaf-small = w .leaf-small; internal-total = w .internal-total; distinct = w .distinct })
+
+pub walked-exactly : WalkedExactly
+walked-exactly leaf mode own rest payload count total b = (walk-reads leaf mode own rest payload count total b, walk-accepts leaf mode own rest payload count total)
