@@ -1,0 +1,70 @@
+-- The words of an answer, and where they are placed.
+use mathlib.Core.Path.{_≡_, refl, ap, _∙_}
+use mathlib.Core.List.{List, _++_}
+use mathlib.Core.Bool.{true, _&&_}
+use lib.Dec.{leb, eqb}
+use Prim.Native.Nat.{ℕ, _≤_}
+use borrow.Author.Tests.{eqb-true, leb-true}
+use Rattle.error.proofs.Tests.{and-left, and-right}
+use Rattle.page.specs.declared.Page.{Page}
+use Rattle.volume.specs.declared.TreeKind.{TreeKind}
+use Rattle.volume.specs.declared.TreeKind.the-variants.{Catalog, Allocation, Cleanup, Workspace}
+use Rattle.volume.specs.References.{treeKindValue}
+use native.Mathlib.Nat.{zero-add}
+use lib.ListN.{length, drop, length-append}
+use lib.Seq.{take-at, drop-drop, drop-append-add}
+use Rattle.group.specs.declared.Slot.{Slot}
+use Rattle.group.specs.declared.Slot.the-variants.{Hole, Word, Refused}
+use Rattle.lookup.specs.Floor.{over}
+use Rattle.lookup.specs.declared.Answer.{Answer}
+use Rattle.lookup.specs.declared.Step.{Step}
+use Rattle.exports.specs.Words.{overAt, room, statusOf, placed, slotWords, floorWords, stepWords, isAsked, kindOf, pageWords, pageAnswer}
+
+pub slot-length : (s : Slot) → length (slotWords s) ≡ 4
+slot-length Hole = refl
+slot-length (Word w) = refl
+slot-length (Refused e) = refl
+
+pub step-length : (s : Step) → length (stepWords s) ≡ 5
+unfolding stepWords
+step-length s = refl
+
+pub floor-length : (a : Answer) → length (floorWords a) ≡ 4
+unfolding floorWords
+floor-length a = refl
+
+-- words that are placed, under the name of what they tell
+pub placed-as : (n : ℕ) (xs ys out after : List ℕ) (r : ℕ) → length ys ≡ n → xs ≡ ys → (r ≡ statusOf (room (length xs) out)) × (after ≡ placed (room (length xs) out) xs out) → (r ≡ statusOf (room n out)) × (after ≡ placed (room n out) ys out)
+placed-as n xs ys out after r l e h =
+    let k : length xs ≡ n = ap length e ∙ l in
+    (h .0 ∙ rw k, h .1 ∙ ap (λ (zs : List ℕ). placed (room (length zs) out) zs out) e ∙ ap (λ (m : ℕ). placed (room m out) ys out) l)
+
+-- two parts, put one behind the other, are put as one
+pub two-puts : (n : ℕ) (u b o : List ℕ) → length u ≡ n → overAt n b (overAt 0 u o) ≡ over (u ++ b) o
+two-puts n u b o e =
+    rw (zero-add, take-at u (drop (length u) o) n e, ← e, drop-append-add u (drop (length u) o) (length b), drop-drop (length b) (length u) o, length-append)
+
+pub page-length : (p : Page) → length (pageWords p) ≡ 7
+unfolding pageWords
+page-length p = refl
+
+pub answer-length : (bytes : List ℕ) (block generation : ℕ) (uuid : List ℕ) (kind parent level blocks : ℕ) → length (pageAnswer bytes block generation uuid kind parent level blocks) ≡ 7
+unfolding pageAnswer
+answer-length bytes block generation uuid kind parent level blocks = page-length _
+
+-- what is asked of a page has a UUID, and a level that fits
+pub asked-fits : (size kind level : ℕ) → isAsked size kind level ≡ true → (size ≡ 16) × (level ≤ 255)
+unfolding isAsked
+asked-fits size kind level e =
+    let a = eqb size 16 in
+    let b = a && leb 1 kind in
+    let d = b && leb kind 4 in
+    (eqb-true size 16 (and-left a (leb 1 kind) (and-left b (leb kind 4) (and-left d (leb level 255) e))), leb-true level 255 (and-right d (leb level 255) e))
+
+-- a kind's number gives the kind back
+pub kind-back : (k : TreeKind) → kindOf (treeKindValue k) ≡ k
+unfolding kindOf
+kind-back Catalog = refl
+kind-back Allocation = refl
+kind-back Cleanup = refl
+kind-back Workspace = refl

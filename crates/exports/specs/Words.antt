@@ -1,0 +1,93 @@
+-- The answers of the C interface, as words of 64 bits in a lent array.
+use Prim.Native.Nat.{ℕ, _+_, _-_}
+use mathlib.Core.Bool.{Bool, _&&_, cond}
+use mathlib.Core.List.{List, [], _∷_, _++_}
+use lib.Dec.{leb, eqb}
+use lib.ListN.{length, take, drop}
+use Rattle.error.specs.Answer.{classOf, reasonOf, checkClass, checkReason}
+use Rattle.group.specs.declared.Slot.{Slot}
+use Rattle.group.specs.declared.Slot.the-variants.{Hole, Word, Refused}
+use Rattle.lookup.specs.Floor.{over}
+use Rattle.lookup.specs.declared.Answer.{Answer}
+use Rattle.lookup.specs.declared.Step.{Step}
+use Rattle.page.specs.Page.{decodePage}
+use Rattle.page.specs.declared.Expected.{Expected}
+use Rattle.page.specs.declared.Page.{Page}
+use Rattle.volume.specs.declared.TreeKind.{TreeKind}
+use Rattle.root.specs.declared.Root.{Root}
+use Rattle.root.specs.declared.Decoded.{Decoded}
+
+-- a number for a test: 1 where it holds
+abbrev pub flag : Bool → ℕ
+flag b = cond b 1 0
+
+-- the list once its elements from a place on are xs; the rest is untouched
+abbrev pub overAt : ℕ → List ℕ → List ℕ → List ℕ
+overAt at xs out = take at out ++ xs ++ drop (at + length xs) out
+
+-- an answer needs n entries of what is lent
+abbrev pub room : ℕ → List ℕ → Bool
+room n out = leb n (length out)
+
+-- what a call answers: 0 where there is room, 1 otherwise
+abbrev pub statusOf : Bool → ℕ
+statusOf fits = cond fits 0 1
+
+-- what is lent holds afterwards: the answer at its front where there is room, otherwise what it held
+abbrev pub placed : Bool → List ℕ → List ℕ → List ℕ
+placed fits xs out = cond fits (over xs out) out
+
+-- class, reason, whether there is a word, the word
+abbrev pub slotWords : Slot → List ℕ
+slotWords Hole = 0 ∷ 0 ∷ 0 ∷ 0 ∷ []
+slotWords (Word w) = 0 ∷ 0 ∷ 1 ∷ w ∷ []
+slotWords (Refused e) = classOf e ∷ reasonOf e ∷ 0 ∷ 0 ∷ []
+
+-- whether there is a record, its index, how many records there are from it on, where they start in the payload
+unfoldable pub floorWords : Answer → List ℕ
+floorWords a = flag (a .found) ∷ a .index ∷ a .remaining ∷ a .from ∷ []
+
+-- whether there is a record, where its key starts and ends, where its value ends, how many are left after it
+unfoldable pub stepWords : Step → List ℕ
+stepWords s = flag (s .found) ∷ s .«key_start» ∷ s .«key_end» ∷ s .«value_end» ∷ s .remaining ∷ []
+
+-- class, reason, whether there is a label, its length, and the root's numbers in the order in which it holds them
+unfoldable pub rootWords : Decoded → List ℕ
+rootWords d =
+    checkClass (d .answer) ∷ checkReason (d .answer)
+    ∷ flag (d .root .«has_label») ∷ d .root .label .len
+    ∷ d .root .generation ∷ d .root .blocks
+    ∷ d .root .catalog .block ∷ d .root .catalog .generation
+    ∷ d .root .allocation .block ∷ d .root .allocation .generation
+    ∷ d .root .cleanup .block ∷ d .root .cleanup .generation
+    ∷ d .root .«next_object» ∷ d .root .«free_blocks» ∷ d .root .«next_job»
+    ∷ d .root .workspace .block ∷ d .root .workspace .generation
+    ∷ d .root .«workspace_cursor» ∷ []
+
+-- the UUID's 16 bytes, then the label's 255
+unfoldable pub rootText : Root → List ℕ
+rootText r = r .uuid ++ r .label .bytes
+
+-- what is asked of a page has a UUID of 16 bytes, a kind of 1 to 4, and a level of at most 255
+unfoldable pub isAsked : ℕ → ℕ → ℕ → Bool
+isAsked size kind level = eqb size 16 && leb 1 kind && leb kind 4 && leb level 255
+
+-- 01, section 4: tree kind 1 catalog, 2 allocation, 3 cleanup, 4 workspace (`proofs/Answers`: `kind-back`)
+unfoldable pub kindOf : ℕ → TreeKind
+kindOf n = cond (eqb n 1) TreeKind.Catalog (cond (eqb n 2) TreeKind.Allocation (cond (eqb n 3) TreeKind.Cleanup TreeKind.Workspace))
+
+-- level 255 is a level that isn't given
+unfoldable pub expectedOf : ℕ → Expected
+expectedOf n = cond (eqb n 255) Expected.Any (Expected.Exactly n)
+
+-- class, reason, level, total, count, where the payload starts, its length
+unfoldable pub pageWords : Page → List ℕ
+pageWords p = p .class ∷ p .reason ∷ p .level ∷ p .«data_blocks» ∷ p .count ∷ p .start ∷ (p .end - p .start) ∷ []
+
+unfoldable pub pageAnswer : List ℕ → ℕ → ℕ → List ℕ → ℕ → ℕ → ℕ → ℕ → List ℕ
+pageAnswer bytes block generation uuid kind parent level blocks =
+    pageWords (decodePage (record { block = block; generation = generation }) uuid (kindOf kind) parent (expectedOf level) blocks bytes)
+
+-- what a page's call answers: 2 for what can't be asked
+abbrev pub pageStatus : Bool → Bool → ℕ
+pageStatus asked fits = cond asked (statusOf fits) 2

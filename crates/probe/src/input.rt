@@ -1,0 +1,47 @@
+// Standard input through a window: its bytes from `at` to `have` are read and not yet answered.
+use libc::STDIN_FILENO;
+
+pub fn held(window: &[u8], at: usize, have: usize) -> &[u8] {
+    if have <= window.len() {
+        if at <= have {
+            return &window[at..have];
+        }
+    }
+    &window[..0]
+}
+
+// The place `by` behind `at`, and no later than `have`.
+pub fn moved(at: usize, by: usize, have: usize) -> usize {
+    if at <= have {
+        if by <= have - at {
+            return at + by;
+        }
+    }
+    have
+}
+
+// Brings the bytes from `at` to `have` to the window's front and answers how many they are.
+pub fn slide(window: &mut [u8], at: usize, have: usize) -> usize {
+    if window.len() < have {
+        return 0;
+    }
+    if have < at {
+        return 0;
+    }
+    let count = have - at;
+    let mut i = 0;
+    while i < count {
+        window[i] = window[at + i];
+        i += 1;
+    }
+    count
+}
+
+// Reads once behind the first `have` bytes and answers how many there are then; as many as before at the end of the input.
+pub fn read_more(window: &mut [u8], have: usize) -> usize {
+    if window.len() <= have {
+        return have;
+    }
+    let got = libc::read(STDIN_FILENO, &mut window[have..]);
+    have + io::count(got, &window[have..])
+}

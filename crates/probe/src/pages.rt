@@ -1,0 +1,165 @@
+// Calls 36 to 40 and 42: pages, their records and lookups.
+use crate::arguments::Numbers;
+use crate::arguments::byte;
+use crate::arguments::kind;
+use crate::arguments::mode;
+use crate::arguments::reference;
+use crate::arguments::short;
+use crate::fields::Fields;
+use crate::fields::four;
+use crate::fields::number;
+use crate::fields::six;
+use crate::output;
+use lookup::Answer;
+use page::Expected;
+use page::Page;
+use walk::RecordValidation;
+
+// 1, index, remaining and offset; where nothing is found each is 0.
+fn found(a: Answer) -> Fields {
+    if a.found {
+        four(1, a.index as u64, a.remaining as u64, a.from as u64)
+    } else {
+        four(0, 0, 0, 0)
+    }
+}
+
+// The lookup over a scratch, and the scratch as it is left.
+fn floor_over(
+    n: Numbers,
+    payload: &[u8],
+    key: &[u8],
+    scratch: &mut [u16],
+    out: &mut [u8],
+    at: usize,
+) -> usize {
+    let answer = lookup::floor_answer(payload, n.a as usize, key, scratch);
+    let told = output::fields(out, at, found(answer));
+    output::hex_entries(out, told, scratch)
+}
+
+// The scratch is the front of what is lent.
+fn floor_in(
+    n: Numbers,
+    payload: &[u8],
+    key: &[u8],
+    space: &mut [u16],
+    out: &mut [u8],
+    at: usize,
+) -> usize {
+    let length = n.b as usize;
+    if space.len() < length {
+        return at;
+    }
+    floor_over(n, payload, key, &mut space[0..length], out, at)
+}
+
+pub fn floor(n: Numbers, payload: &[u8], key: &[u8], out: &mut [u8], at: usize) -> usize {
+    let mut scratch = [short(n.c); 4096];
+    floor_in(n, payload, key, &mut scratch, out, at)
+}
+
+fn next_record(remaining: u64, payload: &[u8]) -> Fields {
+    let s = lookup::next_record(payload, remaining as usize);
+    if s.found {
+        six(
+            1,
+            s.key_start as u64,
+            distance(s.key_start, s.key_end),
+            s.key_end as u64,
+            distance(s.key_end, s.value_end),
+            s.value_end as u64,
+        )
+    } else {
+        six(0, 0, 0, 0, 0, 0)
+    }
+}
+
+fn distance(start: usize, end: usize) -> u64 {
+    if start <= end {
+        (end - start) as u64
+    } else {
+        0
+    }
+}
+
+fn expected(level: u64) -> Expected {
+    if level < 255 {
+        Expected::Exactly(byte(level))
+    } else {
+        Expected::Any
+    }
+}
+
+// Class, reason, level, total, count, and the payload's offset and length.
+fn told_page(p: Page) -> Fields {
+    let values = [
+        p.class as u64,
+        p.reason as u64,
+        p.level as u64,
+        p.data_blocks,
+        p.count as u64,
+        p.start as u64,
+        distance(p.start, p.end),
+    ];
+    Fields { count: 7, values }
+}
+
+// The same without a total.
+fn told_draft(p: Page) -> Fields {
+    six(
+        p.class as u64,
+        p.reason as u64,
+        p.level as u64,
+        p.count as u64,
+        p.start as u64,
+        distance(p.start, p.end),
+    )
+}
+
+fn decode_page(n: Numbers, uuid: &[u8], page: &[u8]) -> Fields {
+    let id = octets::copy16(uuid);
+    told_page(page::decode_page(
+        page,
+        reference(n.a, n.b),
+        &id,
+        kind(n.c),
+        n.d,
+        expected(n.e),
+        n.f,
+    ))
+}
+
+fn verified_page_view(n: Numbers, uuid: &[u8], page: &[u8]) -> Fields {
+    let id = octets::copy16(uuid);
+    told_page(page::verified_page_view(
+        page,
+        reference(n.a, n.b),
+        &id,
+        kind(n.c),
+        n.d,
+        expected(n.e),
+    ))
+}
+
+fn validate_records(n: Numbers, rest: &[u8]) -> Fields {
+    let context = RecordValidation {
+        kind: kind(n.a),
+        page_kind: byte(n.b),
+        page_generation: n.c,
+        blocks: n.d,
+        mode: mode(n.e),
+    };
+    number(walk::validate_records(rest, n.f as usize, n.g as usize, context))
+}
+
+// Calls 36 to 38, 40 and 42.
+pub fn answer(call: u8, n: Numbers, a: &[u8], b: &[u8]) -> Fields {
+    match call {
+        36 => decode_page(n, a, b),
+        37 => verified_page_view(n, a, b),
+        38 => told_draft(page::draft_page_view(a)),
+        40 => next_record(n.a, a),
+        _ => validate_records(n, a),
+    }
+}

@@ -1,0 +1,4 @@
+pub mod Lay
+pub mod Digits
+pub mod Lines
+pub mod Value

@@ -1,0 +1,10 @@
+use Rattle.report.proofs.Lay.{laid-out}
+use borrow.Author.Needs.{needs}
+use Rattle.report.proofs.put_byte.Statement.{statement}
+use Rattle.report.proofs.put_byte.Tie as tie
+
+returns-2 : tie.Need-returns-2
+returns-2 c = search laid-out
+
+pub put-byte-spec : {M : Type 1} → statement M
+put-byte-spec = tie.close (tie.spec (λ c. search needs) (λ c. search needs) (λ c. search needs) (λ c. search needs) returns-2)
