@@ -1,4 +1,4 @@
--- What a floor lookup on a view answers: the numbers of `lookup`'s answer, and the payload from the record on. Assumes nothing.
+-- What a floor lookup on a view answers (01, section 7): the numbers of `lookup`'s answer, and the payload from the record on.
 use mathlib.Core.Path.{_≡_}
 use Prim.Native.Nat.{ℕ, _-_}
 use mathlib.Core.List.{List}
