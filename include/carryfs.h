@@ -85,7 +85,7 @@ uint32_t carryfs_page(const uint8_t *bytes, size_t length, uint64_t block, uint6
 
 /* The last record whose key is not above `key`, among `count` records in a payload. With a scratch of at least `count` entries
  * the records are halved, and its first `count` entries are overwritten; with a shorter one they are walked. The records from the
- * found one on are the payload from CARRYFS_FLOOR_OFFSET on, CARRYFS_FLOOR_REMAINING of them. */
+ * found one on are the payload from CARRYFS_FLOOR_OFFSET on, CARRYFS_FLOOR_REMAINING of them. Where none is found all are 0. */
 #define CARRYFS_FLOOR_FOUND 0
 #define CARRYFS_FLOOR_INDEX 1
 #define CARRYFS_FLOOR_REMAINING 2

@@ -1,7 +1,7 @@
--- The name of a directory entry, and the target of a symlink.
+-- The name of a directory entry, the target of a symlink, and the groups of an inode's demands.
 use mathlib.Core.Path.{_≡_, sym, _∙_}
 use mathlib.Core.Bool.{Bool, false, not}
-use mathlib.Core.List.{List}
+use mathlib.Core.List.{List, [], _∷_, _++_}
 use Prim.Native.Nat.{ℕ, _+_, _-_, _≤_, _<_}
 use native.Mathlib.Omega.{arith}
 use borrow.Author.Tests.{eq-eqb, ne-eqb, le-leb, lt-leb, leb-true}
@@ -10,11 +10,16 @@ use lib.ListN.{length, take, drop, getD}
 use Rattle.error.specs.declared.Validation.{Validation}
 use Rattle.error.specs.declared.Check.{Check}
 use Rattle.error.specs.declared.Check.the-variants.{Passed}
+use Rattle.error.specs.Answer.{violationOf}
+use Rattle.error.specs.Demand.{_otherwise_, passing, demands}
+use Rattle.error.specs.Reason as reason
 use Rattle.error.proofs.Tests.{and-left}
-use Rattle.error.proofs.Chain.{all-hold, chain}
+use Rattle.error.proofs.Exactly.{all-hold, flat, front, fronts}
+use Rattle.error.proofs.Chain.{chain}
 use Rattle.utf8.specs.Reading.{utf8}
 use Rattle.catalog.specs.Entry.{entryNameLength, isEntryName}
-use Rattle.catalog.specs.Inode.{flagsAndReserved, inodeFields, inodeTimes, validateInode, inodeType, endsRight, inodeShapeDemands, inodeShape, targetCheck, validateSymlinkTarget}
+use Rattle.catalog.specs.Inode.{flagsAndReserved, validateInode, inodeType, endsRight, inodeShapeDemands, inodeFieldDemands, inodeTimeDemands, targetCheck, validateSymlinkTarget}
+use Rattle.catalog.specs.Inside.{inodeGroups, inodeFields, inodeTimes, inodeShape}
 use Rattle.catalog.proofs.Fields.{utf8-rest, target-rest}
 
 module _ (value : List ℕ) (n : ℕ) (e : n ≡ entryNameLength value) where
@@ -49,6 +54,23 @@ unfolding inodeShape
 shape-long value mode p q = let h = all-hold (inodeShapeDemands value mode) (sym p ∙ q) in leb-true 128 (length value) (and-left (leb 128 (length value)) (endsRight (inodeType value) (length value)) (h .1 .1 .0))
 
 -- the times answer where all before them passed
-pub inode-ends : (value : List ℕ) (blocks : ℕ) (mode : Validation) (shape fields target r : Check) (flags : Bool) → shape ≡ inodeShape value mode → shape ≡ Passed → not flags ≡ false → flags ≡ flagsAndReserved value → fields ≡ inodeFields value blocks mode → fields ≡ Passed → target ≡ targetCheck value mode → target ≡ Passed → r ≡ inodeTimes value mode → r ≡ validateInode value blocks mode
-unfolding validateInode
+pub inode-ends : (value : List ℕ) (blocks : ℕ) (mode : Validation) (shape fields target r : Check) (flags : Bool) → shape ≡ inodeShape value mode → shape ≡ Passed → not flags ≡ false → flags ≡ flagsAndReserved value → fields ≡ inodeFields value blocks mode → fields ≡ Passed → target ≡ targetCheck value mode → target ≡ Passed → r ≡ inodeTimes value mode → r ≡ demands (inodeGroups value blocks mode)
 inode-ends value blocks mode shape fields target r flags a b c d e f g h i = search chain depth 12
+
+-- an inode's groups of demands are its demands, one after the other
+inode-flat : (value : List ℕ) (blocks : ℕ) (mode : Validation) → demands (inodeGroups value blocks mode) ≡ validateInode value blocks mode
+unfolding validateInode inodeShape inodeFields inodeTimes
+inode-flat value blocks mode =
+    let shape = inodeShapeDemands value mode in
+    let fields = inodeFieldDemands value blocks mode in
+    let times = inodeTimeDemands value mode in
+    let flags = flagsAndReserved value otherwise violationOf mode reason.invalidInodeFlagsOrReservedBytes in
+    let target = passing (targetCheck value mode) in
+    let last : demands (target ∷ passing (demands times) ∷ []) ≡ demands (target ∷ times) = front target (passing (demands times) ∷ []) times (flat times []) in
+    let middle : demands (passing (demands fields) ∷ target ∷ passing (demands times) ∷ []) ≡ demands (fields ++ (target ∷ times)) = flat fields (target ∷ passing (demands times) ∷ []) ∙ fronts fields (target ∷ passing (demands times) ∷ []) (target ∷ times) last in
+    flat shape (flags ∷ passing (demands fields) ∷ target ∷ passing (demands times) ∷ [])
+    ∙ fronts shape (flags ∷ passing (demands fields) ∷ target ∷ passing (demands times) ∷ []) (flags ∷ (fields ++ (target ∷ times)))
+    (front flags (passing (demands fields) ∷ target ∷ passing (demands times) ∷ []) (fields ++ (target ∷ times)) middle)
+
+pub inode-grouped : (value : List ℕ) (blocks : ℕ) (mode : Validation) {x : Check} → x ≡ demands (inodeGroups value blocks mode) → x ≡ validateInode value blocks mode
+inode-grouped value blocks mode e = e ∙ inode-flat value blocks mode

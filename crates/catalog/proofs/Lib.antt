@@ -1,4 +1,3 @@
-pub mod Sums
 pub mod Signed
 pub mod Nul
 pub mod Fields

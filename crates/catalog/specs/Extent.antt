@@ -1,5 +1,5 @@
 -- Extents (01, section 5).
-use Prim.Native.Nat.{ℕ, _+_, _-_, _^_}
+use Prim.Native.Nat.{ℕ, _+_, _^_}
 use mathlib.Core.Bool.{Bool, not, _&&_}
 use mathlib.Core.List.{List, [], _∷_}
 use lib.Dec.{leb, eqb}
@@ -10,9 +10,9 @@ use Rattle.error.specs.Answer.{violationOf}
 use Rattle.error.specs.Demand.{Demand, _otherwise_, outcome}
 use Rattle.error.specs.Reason as reason
 use Rattle.octets.specs.Number.{u32At, u64At}
-use Rattle.volume.specs.Blocks.{isNonreservedBlock}
+use Rattle.volume.specs.Numbers.{sumFits}
+use Rattle.volume.specs.Blocks.{isNonreservedRun}
 use Rattle.catalog.specs.Keys.{keyNumber}
-use Rattle.catalog.specs.Numbers.{sumFits}
 
 -- the fields of an extent; the first logical block is in its key
 abbrev pub extentLogical : List ℕ → ℕ
@@ -26,10 +26,6 @@ extentCount value = u32At value 8
 
 abbrev pub extentReserved : List ℕ → ℕ
 extentReserved value = u32At value 12
-
--- count blocks from physical on lie outside the reserved blocks
-abbrev pub isNonreservedRun : ℕ → ℕ → ℕ → Bool
-isNonreservedRun physical count blocks = isNonreservedBlock physical blocks && leb (physical + count) (blocks - 512)
 
 -- 01, section 5: an extent's logical end is at most 2^51
 unfoldable pub isExtentRange : ℕ → ℕ → ℕ → ℕ → ℕ → Bool

@@ -29,7 +29,7 @@ abbrev pub tooLongOf : Validation → ℕ → Error
 tooLongOf Input reason = TooLong reason
 tooLongOf Disk reason = Corrupt reason
 
--- a target is 1 to 1,023 bytes of UTF-8 without NUL
+-- a target is not empty, has no NUL, and is UTF-8; its length is tested before
 unfoldable pub isTarget : List ℕ → Bool
 isTarget target = not (eqb (length target) 0) && withoutNul target && utf8 target
 
@@ -103,9 +103,6 @@ inodeFieldDemands value blocks mode =
     passing (validateOwnerId (inodeParent value) mode)
     ∷ inodeNumberDemands (inodeType value) (length value - 128) (inodeSize value) (inodeAllocated value) (inodeChildren value) blocks mode
 
-unfoldable pub inodeFields : List ℕ → ℕ → Validation → Check
-inodeFields value blocks mode = demands (inodeFieldDemands value blocks mode)
-
 -- the target of a symlink; other inodes have none
 unfoldable pub targetCheck : List ℕ → Validation → Check
 targetCheck value mode = cond (eqb (inodeType value) 3) (validateSymlinkTarget (inodeTarget value) mode) Passed
@@ -117,9 +114,6 @@ inodeTimeDemands value mode =
     ∷ passing (validateTimestamp value 72 mode)
     ∷ []
 
-unfoldable pub inodeTimes : List ℕ → Validation → Check
-inodeTimes value mode = demands (inodeTimeDemands value mode)
-
 -- 01, "Misreadings": the type is tested before the length; an empty value has no type
 abbrev pub inodeShapeDemands : List ℕ → Validation → List Demand
 inodeShapeDemands value mode =
@@ -128,24 +122,12 @@ inodeShapeDemands value mode =
     ∷ (leb 128 (length value) && endsRight (inodeType value) (length value)) otherwise violationOf mode reason.invalidInodeLength
     ∷ []
 
-unfoldable pub inodeShape : List ℕ → Validation → Check
-inodeShape value mode = demands (inodeShapeDemands value mode)
-
+-- its shape, its flags and reserved bytes, its fields, its target and its times
 abbrev pub inodeDemands : List ℕ → ℕ → Validation → List Demand
 inodeDemands value blocks mode =
-    passing (inodeShape value mode)
-    ∷ flagsAndReserved value otherwise violationOf mode reason.invalidInodeFlagsOrReservedBytes
-    ∷ passing (inodeFields value blocks mode)
-    ∷ passing (targetCheck value mode)
-    ∷ passing (inodeTimes value mode)
-    ∷ []
-
-unfoldable pub validateInode : List ℕ → ℕ → Validation → Check
-validateInode value blocks mode = demands (inodeDemands value blocks mode)
-
--- the same demands in one list
-abbrev pub inodeRules : List ℕ → ℕ → Validation → List Demand
-inodeRules value blocks mode =
     inodeShapeDemands value mode
     ++ (flagsAndReserved value otherwise violationOf mode reason.invalidInodeFlagsOrReservedBytes ∷ inodeFieldDemands value blocks mode)
     ++ (passing (targetCheck value mode) ∷ inodeTimeDemands value mode)
+
+unfoldable pub validateInode : List ℕ → ℕ → Validation → Check
+validateInode value blocks mode = demands (inodeDemands value blocks mode)

@@ -5,10 +5,11 @@ ghost use Prim.Native.Nat.{_≤_};
 ghost use lib.ListN.{length};
 ghost use Rattle.error.specs.declared.Number.{Number as NumberOf};
 ghost use Rattle.error.specs.Demand.{outcome, demands};
-ghost use Rattle.catalog.specs.Numbers.{sumFits};
+ghost use Rattle.volume.specs.Numbers.{sumFits};
 ghost use Rattle.catalog.specs.Keys.{validateOwnerId, isCatalogKey, validateCatalogKey};
 ghost use Rattle.catalog.specs.Times.{secondsInRange, validateTimestampRange, signedNumber, validateTimestamp};
-ghost use Rattle.catalog.specs.Inode.{withoutNul, tooLongOf, isTarget, validateSymlinkTarget, endsRight, flagsAllowed, fieldsInRange, fieldsOfType, flagsAndReserved, inodeNumberDemands, inodeFields, targetCheck, inodeTimes, inodeShape, validateInode};
+ghost use Rattle.catalog.specs.Inode.{withoutNul, tooLongOf, isTarget, validateSymlinkTarget, endsRight, flagsAllowed, fieldsInRange, fieldsOfType, flagsAndReserved, inodeNumberDemands, targetCheck, validateInode};
+ghost use Rattle.catalog.specs.Inside.{inodeFields, inodeTimes, inodeShape};
 ghost use Rattle.catalog.specs.Entry.{isEntryName, validateDirectoryEntry};
 ghost use Rattle.catalog.specs.Extent.{isExtentRange, extentRangeDemands, validateExtent};
 use error::Check;
@@ -16,9 +17,6 @@ use error::Error;
 use error::Number;
 use error::Validation;
 use error::reason;
-
-// Exhaustion sentinel for object and job IDs.
-pub const MAX_ID: u64 = 0x7FFF_FFFF_FFFF_FFFF;
 
 pub const MAX_FILE_BYTES: u64 = 0x7FFF_FFFF_FFFF_FFFF;
 
@@ -28,13 +26,6 @@ pub const MAX_LOGICAL_BLOCK: u64 = MAX_FILE_BYTES / 4096 + 1;
 // Longest symlink target.
 pub const MAX_SYMLINK_TARGET: usize = 1023;
 
-// Whether a sum stays within 64 bits.
-pub fn sum_fits(a: u64, b: u64) -> bool
-    ensures { λ r. ⌜ r ≡ sumFits a b ⌝ }
-{
-    a <= 0xFFFF_FFFF_FFFF_FFFF - b
-}
-
 // Check an object or job ID.
 pub fn validate_owner_id(owner: u64, mode: Validation) -> Check
     ensures { λ r. ⌜ r ≡ validateOwnerId owner mode ⌝ }
@@ -42,7 +33,7 @@ pub fn validate_owner_id(owner: u64, mode: Validation) -> Check
     if owner < 1 {
         return Check::Refused(error::violation(mode, reason::INVALID_OBJECT_ID));
     }
-    if MAX_ID - 1 < owner {
+    if volume::MAX_ID - 1 < owner {
         return Check::Refused(error::violation(mode, reason::INVALID_OBJECT_ID));
     }
     Check::Passed
@@ -196,7 +187,7 @@ fn flags_and_reserved(value: &[u8]) -> bool
 fn fields_in_range(size: u64, allocated: u64, children: u64, blocks: u64) -> bool
     ensures { λ r. ⌜ r ≡ fieldsInRange size allocated children blocks ⌝ }
 {
-    (size <= MAX_FILE_BYTES) & (allocated <= blocks) & (children <= MAX_ID)
+    (size <= MAX_FILE_BYTES) & (allocated <= blocks) & (children <= volume::MAX_ID)
 }
 
 // What the type says of the numbers; target is the length of what follows the 128 bytes.
@@ -359,14 +350,13 @@ pub fn validate_directory_entry(value: &[u8], mode: Validation) -> Check
 }
 
 fn is_extent_range(logical: u64, physical: u64, count: u64, reserved: u32, blocks: u64) -> bool
-    requires { ⌜ (sumFits physical count ≡ true) × (sumFits logical count ≡ true) ⌝ }
+    requires { ⌜ sumFits logical count ≡ true ⌝ }
     ensures { λ r. ⌜ r ≡ isExtentRange logical physical count reserved blocks ⌝ }
 {
     (count != 0)
         & (reserved == 0)
         & (logical + count <= MAX_LOGICAL_BLOCK)
-        & (volume::is_nonreserved_block(physical, blocks)
-            & (physical + count <= volume::saturating_sub(blocks, volume::RESERVED_BLOCKS)))
+        & volume::is_nonreserved_run(physical, count, blocks)
 }
 
 // The three refusals of an extent's range, over its fields; else its count.
@@ -380,10 +370,10 @@ fn extent_range(
 ) -> Number
     ensures { λ r. ⌜ r ≡ outcome (extentRangeDemands logical physical count reserved blocks mode) NumberOf.Refused (NumberOf.Value count) ⌝ }
 {
-    if !sum_fits(physical, count) {
+    if !volume::sum_fits(physical, count) {
         return Number::Refused(error::violation(mode, reason::EXTENT_PHYSICAL_RANGE));
     }
-    if !sum_fits(logical, count) {
+    if !volume::sum_fits(logical, count) {
         return Number::Refused(error::violation(mode, reason::EXTENT_LOGICAL_RANGE));
     }
     if !is_extent_range(logical, physical, count, reserved, blocks) {

@@ -1,8 +1,8 @@
 -- Demand 3 holds.
-use Rattle.page.proofs.Agree.{pages-agree}
+use Rattle.page.proofs.Agree.{pages-agree, lookup-is-handed-out}
 use Rattle.root.proofs.Agree.{roots-agree}
-use Rattle.group.proofs.Agree.{groups-agree, expanded-groups-agree}
+use Rattle.group.proofs.Agree.{groups-agree, expanded-slots, expanded-groups-agree}
 use Rattle.claims.specs.Agreement.{Demand3}
 
 pub demand-3 : Demand3
-demand-3 = record { pages = pages-agree; roots = roots-agree; groups = groups-agree; expanded = expanded-groups-agree }
+demand-3 = record { pages = pages-agree; found = lookup-is-handed-out; roots = roots-agree; groups = groups-agree; slots = expanded-slots; expanded = expanded-groups-agree }

@@ -7,11 +7,12 @@ use Prim.Native.Nat.{ℕ}
 use Rattle.utf8.specs.Rfc3629.{Utf8}
 use Rattle.utf8.specs.Reading.{utf8}
 use Rattle.root.specs.Accept.{LabelExactly, RootExactly}
-use Rattle.page.specs.Accept.{PageAccepted}
+use Rattle.page.specs.Accept.{PageExactly}
 use Rattle.walk.specs.Entries.{WalkedExactly}
-use Rattle.group.specs.Accept.{GroupAccepted}
-use Rattle.catalog.specs.Accept.{CatalogAccepted}
-use Rattle.record.specs.Accept.{RecordsAccepted}
+use Rattle.group.specs.Accept.{GroupExactly}
+use Rattle.catalog.specs.Accept.{CatalogExactly}
+use Rattle.record.specs.Accept.{RecordsExactly}
+use Rattle.lookup.specs.Sorted.{FloorIsTheLast, WalkingIsHalving}
 
 pub record Demand2 : Type 0 where
   -- a text is UTF-8 exactly when it is a sequence of RFC 3629's alternatives
@@ -20,10 +21,13 @@ pub record Demand2 : Type 0 where
   pub labels : LabelExactly
   pub roots : RootExactly
   -- section 4: pages; their records are those that the walk reads
-  pub pages : PageAccepted
+  pub pages : PageExactly
   pub walks : WalkedExactly
   -- section 5: every kind of record
-  pub catalog : CatalogAccepted
-  pub records : RecordsAccepted
+  pub catalog : CatalogExactly
+  pub records : RecordsExactly
   -- section 6: checksum groups
-  pub groups : GroupAccepted
+  pub groups : GroupExactly
+  -- section 7: on increasing keys a lookup finds the last not above the sought one, by walking and by halving, whatever the scratch
+  pub lookups : FloorIsTheLast
+  pub scratch : WalkingIsHalving

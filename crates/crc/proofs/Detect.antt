@@ -6,7 +6,7 @@ use native.Mathlib.Nat.{suc-inj}
 use native.Mathlib.Omega.{arith}
 use lib.ListN.{length}
 use Rattle.crc.specs.Crc.{_⊕_, ones, polynomial, stepBit, stepBits, stepByte, extend, crc32c}
-use Rattle.crc.specs.Number.{number, xors}
+use Rattle.crc.specs.Inside.{number, xors}
 use Rattle.crc.proofs.Xor.{⊕-comm, ⊕-zero-l, ⊕-self, ⊕-swap, ⊕-shl, ⊕-lt, ⊕-cancel, ⊕-zero-eq}
 use Rattle.crc.proofs.Linear.{stepBits-⊕, stepBits-add, stepBits-shifted, extend-number}
 

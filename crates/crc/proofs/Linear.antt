@@ -8,7 +8,7 @@ use lib.ListN.{length, replicate, length-replicate}
 use lib.Bits.{differ, shifted-half, shifted-even}
 use lib.Pow.{split, pow-pos}
 use Rattle.crc.specs.Crc.{_⊕_, polynomial, stepBit, stepBits, stepByte, extend}
-use Rattle.crc.specs.Number.{number}
+use Rattle.crc.specs.Inside.{number}
 use Rattle.crc.proofs.Xor.{⊕-comm, ⊕-assoc, ⊕-zero-l, ⊕-zero-r, ⊕-self, ⊕-swap, ⊕-shr, ⊕-low, ⊕-shifted, bit-lt}
 
 -- a bit, times the polynomial

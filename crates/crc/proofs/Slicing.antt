@@ -7,7 +7,7 @@ use native.Mathlib.Omega.{arith}
 use lib.Bits.{bitOr, or-shifted-r}
 use lib.Pow.{pow-pos, shr-shr, shr-mod, split}
 use Rattle.crc.specs.Crc.{_⊕_, stepBits, stepByte, extend}
-use Rattle.crc.specs.Number.{number}
+use Rattle.crc.specs.Inside.{number}
 use Rattle.crc.proofs.Xor.{⊕-comm, ⊕-zero-l, ⊕-zero-r, ⊕-shr, ⊕-shifted, ⊕-lt}
 use Rattle.crc.proofs.Linear.{stepBits-low, extend-number, extend-byte}
 

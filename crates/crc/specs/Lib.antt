@@ -1,5 +1,5 @@
 pub mod Crc
 pub mod DataUnit
-pub mod Number
 pub mod Tables
 pub mod Examples
+pub mod Inside

@@ -7,7 +7,7 @@ ghost use Prim.Native.Nat.{_+_, _*_, _%_, _^_, _<_, _≤_, min};
 ghost use lib.ListN.{length, drop, replicate};
 ghost use Rattle.crc.specs.Crc.{stepBits, stepByte, extend, crc32c as crc32cOf, crc32cWithZero};
 ghost use Rattle.crc.specs.DataUnit.{unitBytes, le, dataUnit, dataUnitCrc};
-ghost use Rattle.crc.specs.Number.{number};
+ghost use Rattle.crc.specs.Inside.{number};
 ghost use Rattle.crc.specs.Tables.{IsTables};
 use error::Error;
 use error::Number;

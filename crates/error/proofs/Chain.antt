@@ -1,74 +1,18 @@
--- Laws of a list of demands. `search chain depth N` follows the early returns of a function with these.
-use mathlib.Core.Path.{_≡_, refl, sym, ap, _∙_}
-use mathlib.Core.Bool.{Bool, true, false, not, cond}
-use mathlib.Core.Logic.{_↔_}
-use mathlib.Core.List.{List, [], _∷_, _++_}
+-- The early returns of a function, by its list of demands: `search chain depth N` follows them with these laws.
+use mathlib.Core.Path.{_≡_, sym, ap, _∙_}
+use mathlib.Core.Bool.{Bool, true, false, cond}
+use mathlib.Core.List.{List, [], _∷_}
 use Prim.Native.Nat.{ℕ, zero, suc}
-use native.Mathlib.Omega.{arith}
 use Rattle.error.specs.declared.Error.{Error}
 use Rattle.error.specs.declared.Error.the-variants.{UnsupportedFormat}
 use Rattle.error.specs.declared.Check.{Check}
 use Rattle.error.specs.declared.Check.the-variants.{Passed, Refused}
 use Rattle.error.specs.declared.Number.{Number}
 use Rattle.error.specs.Answer.{numberCheck}
-use Rattle.error.specs.Demand.{Demand, _otherwise_, passing, isPassed, refusalOf, outcome, demands, AllHold}
+use Rattle.error.specs.Demand.{Demand, _otherwise_, passing, isPassed, outcome, demands}
 use Rattle.error.proofs.Tests.{tests}
 
--- ---- what a list of demands says
-
--- it passes exactly where each test holds
-pub all-hold : (ds : List Demand) → demands ds ≡ Passed → AllHold ds
-unfolding outcome
-all-hold [] e = tt
-all-hold (d ∷ ds) e = go (d .test) refl e (all-hold ds)
-  where
-    go : (b : Bool) → d .test ≡ b → cond b (demands ds) (Refused (d .refusal)) ≡ Passed → (demands ds ≡ Passed → AllHold ds) → AllHold (d ∷ ds)
-    go true p e rest = (p, rest e)
-    go false p e rest = let z : _≡_ {A = ℕ} 0 1 = cc in absurd (omega arith)
-
-pub all-pass : (ds : List Demand) → AllHold ds → demands ds ≡ Passed
-unfolding outcome
-all-pass [] h = refl
-all-pass (d ∷ ds) h = rw (h .0) (all-pass ds (h .1))
-
-pub accepted-exactly : (ds : List Demand) → (demands ds ≡ Passed) ↔ AllHold ds
-accepted-exactly ds = (all-hold ds, all-pass ds)
-
--- a check that passed, as a demand of a longer chain
-pub passed-is : (c : Check) → isPassed c ≡ true → c ≡ Passed
-passed-is Passed e = refl
-passed-is (Refused x) e = let z : _≡_ {A = ℕ} 0 1 = cc in absurd (omega arith)
-
-pub passed-test : (c : Check) → c ≡ Passed → isPassed c ≡ true
-passed-test c e = rw e
-
--- an answer of another type goes by the same list
-abbrev pub by : {A : Type 0} → Check → (Error → A) → A → A
-by Passed refused accepted = accepted
-by (Refused e) refused accepted = refused e
-
-pub outcome-by : {A : Type 0} (ds : List Demand) (refused : Error → A) (accepted : A) → outcome ds refused accepted ≡ by (demands ds) refused accepted
-unfolding outcome
-outcome-by [] refused accepted = refl
-outcome-by (d ∷ ds) refused accepted = go (d .test) (outcome-by ds refused accepted)
-  where
-    go : (b : Bool) → outcome ds refused accepted ≡ by (demands ds) refused accepted → cond b (outcome ds refused accepted) (refused (d .refusal)) ≡ by (cond b (demands ds) (Refused (d .refusal))) refused accepted
-    go true e = e
-    go false e = refl
-
--- where all hold, the result is the call's own
-pub outcome-holds : {A : Type 0} (ds : List Demand) (refused : Error → A) (accepted : A) → AllHold ds → outcome ds refused accepted ≡ accepted
-outcome-holds ds refused accepted h = outcome-by ds refused accepted ∙ rw (all-pass ds h)
-
--- an answer of another type beside the check of the same list
-module _ {A : Type 0} (ds : List Demand) (refused : Error → A) (accepted x : A) (c : Check) (is : c ≡ demands ds) where
-  pub outcome-refused : (e : Error) → c ≡ Refused e → x ≡ refused e → x ≡ outcome ds refused accepted
-  outcome-refused e p q = q ∙ sym (outcome-by ds refused accepted ∙ ap (λ (d : Check). by d refused accepted) (sym is ∙ p))
-
-  pub outcome-passed : c ≡ Passed → x ≡ accepted → x ≡ outcome ds refused accepted
-  outcome-passed p q = q ∙ sym (outcome-by ds refused accepted ∙ ap (λ (d : Check). by d refused accepted) (sym is ∙ p))
-
--- ---- the early returns of a function
+-- ---- one demand after the other
 
 module _ {A : Type 0} (refused : Error → A) (accepted : A) where
   -- all demands are met
@@ -164,11 +108,5 @@ cond-first t x a b p q = q ∙ rw p
 
 pub cond-second : {A : Type 0} (t : Bool) (x a b : A) → t ≡ false → x ≡ b → x ≡ cond t a b
 cond-second t x a b p q = q ∙ rw p
-
--- two lists, one after the other
-pub joined : (ds es : List Demand) → demands ds ≡ Passed → demands (ds ++ es) ≡ demands es
-unfolding outcome
-joined [] es h = refl
-joined (d ∷ ds) es h = let a = all-hold (d ∷ ds) h in rw (a .0) (joined ds es (all-pass ds (a .1)))
 
 pub ruleset chain = (met, fails, holds, inner-fails, inner-holds, number-fails, number-holds, last-check, handed-on, refused-same, number-refused-same, value-same, cond-first, cond-second, tests)

@@ -1,10 +1,10 @@
 -- Tests joined, and a test from what a call ensures of its result.
 use mathlib.Core.Path.{_≡_, refl, sym, _∙_}
-use mathlib.Core.Bool.{Bool, true, false, not, _&&_, _||_}
+use mathlib.Core.Bool.{Bool, true, false, not, _&&_, _||_, and-false}
 use Prim.Native.Nat.{ℕ, _≤_, _<_}
 use native.Mathlib.Omega.{arith}
 use borrow.Author.Tests.{eq-eqb, ne-eqb, le-leb, lt-leb, lt-ltb, le-ltb, not-true, not-false}
-use lib.Dec.{eqb, leb, ltb}
+use lib.Dec.{eqb, leb}
 
 -- ---- both tests hold
 
@@ -15,14 +15,6 @@ and-left false b e = e
 pub and-right : (a b : Bool) → (a && b) ≡ true → b ≡ true
 and-right true b e = e
 and-right false b e = cc
-
-pub and-false : (a : Bool) → (a && false) ≡ false
-and-false true = refl
-and-false false = refl
-
-pub and-true : (a : Bool) → (a && true) ≡ a
-and-true true = refl
-and-true false = refl
 
 pub and-both : (a b : Bool) → a ≡ true → b ≡ true → (a && b) ≡ true
 and-both a b p q = rw (p, q)

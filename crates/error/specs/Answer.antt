@@ -40,9 +40,9 @@ abbrev pub numberCheck : Number → Check
 numberCheck (Number.Value n) = Passed
 numberCheck (Number.Refused e) = Refused e
 
-abbrev pub valueOf : Number → ℕ
-valueOf (Number.Value n) = n
-valueOf (Number.Refused e) = 0
+abbrev pub numberOf : Number → ℕ
+numberOf (Number.Value n) = n
+numberOf (Number.Refused e) = 0
 
 -- 01, "Return classes": a record's violation is class 2 in mode Input and class 3 in mode Disk
 abbrev pub violationOf : Validation → ℕ → Error

@@ -7,18 +7,16 @@ use Prim.Native.Nat.{ℕ, _≤_}
 use borrow.Author.Tests.{eqb-true, leb-true}
 use Rattle.error.proofs.Tests.{and-left, and-right}
 use Rattle.page.specs.declared.Page.{Page}
-use Rattle.volume.specs.declared.TreeKind.{TreeKind}
-use Rattle.volume.specs.declared.TreeKind.the-variants.{Catalog, Allocation, Cleanup, Workspace}
-use Rattle.volume.specs.References.{treeKindValue}
 use native.Mathlib.Nat.{zero-add}
 use lib.ListN.{length, drop, length-append}
 use lib.Seq.{take-at, drop-drop, drop-append-add}
+use Rattle.volume.specs.References.{isTreeKindValue}
 use Rattle.group.specs.declared.Slot.{Slot}
 use Rattle.group.specs.declared.Slot.the-variants.{Hole, Word, Refused}
 use Rattle.lookup.specs.Floor.{over}
 use Rattle.lookup.specs.declared.Answer.{Answer}
 use Rattle.lookup.specs.declared.Step.{Step}
-use Rattle.exports.specs.Words.{overAt, room, statusOf, placed, slotWords, floorWords, stepWords, isAsked, kindOf, pageWords, pageAnswer}
+use Rattle.exports.specs.Words.{overAt, room, statusOf, placed, slotWords, floorWords, stepWords, isAsked, pageWords, pageAnswer}
 
 pub slot-length : (s : Slot) → length (slotWords s) ≡ 4
 slot-length Hole = refl
@@ -57,14 +55,5 @@ pub asked-fits : (size kind level : ℕ) → isAsked size kind level ≡ true �
 unfolding isAsked
 asked-fits size kind level e =
     let a = eqb size 16 in
-    let b = a && leb 1 kind in
-    let d = b && leb kind 4 in
-    (eqb-true size 16 (and-left a (leb 1 kind) (and-left b (leb kind 4) (and-left d (leb level 255) e))), leb-true level 255 (and-right d (leb level 255) e))
-
--- a kind's number gives the kind back
-pub kind-back : (k : TreeKind) → kindOf (treeKindValue k) ≡ k
-unfolding kindOf
-kind-back Catalog = refl
-kind-back Allocation = refl
-kind-back Cleanup = refl
-kind-back Workspace = refl
+    let b = a && isTreeKindValue kind in
+    (eqb-true size 16 (and-left a (isTreeKindValue kind) (and-left b (leb level 255) e)), leb-true level 255 (and-right b (leb level 255) e))

@@ -4,16 +4,16 @@ use mathlib.Core.Bool.{Bool, _&&_, cond}
 use mathlib.Core.List.{List, [], _∷_, _++_}
 use lib.Dec.{leb, eqb}
 use lib.ListN.{length, take, drop}
-use Rattle.error.specs.Answer.{classOf, reasonOf, checkClass, checkReason}
+use Rattle.error.specs.Answer.{checkClass, checkReason}
 use Rattle.group.specs.declared.Slot.{Slot}
-use Rattle.group.specs.declared.Slot.the-variants.{Hole, Word, Refused}
+use Rattle.group.specs.Slots.{slotClass, slotReason, presence, wordIn}
 use Rattle.lookup.specs.Floor.{over}
 use Rattle.lookup.specs.declared.Answer.{Answer}
 use Rattle.lookup.specs.declared.Step.{Step}
 use Rattle.page.specs.Page.{decodePage}
-use Rattle.page.specs.declared.Expected.{Expected}
+use Rattle.page.specs.Header.{expectedOf}
 use Rattle.page.specs.declared.Page.{Page}
-use Rattle.volume.specs.declared.TreeKind.{TreeKind}
+use Rattle.volume.specs.References.{isTreeKindValue, treeKindOf}
 use Rattle.root.specs.declared.Root.{Root}
 use Rattle.root.specs.declared.Decoded.{Decoded}
 
@@ -39,9 +39,7 @@ placed fits xs out = cond fits (over xs out) out
 
 -- class, reason, whether there is a word, the word
 abbrev pub slotWords : Slot → List ℕ
-slotWords Hole = 0 ∷ 0 ∷ 0 ∷ 0 ∷ []
-slotWords (Word w) = 0 ∷ 0 ∷ 1 ∷ w ∷ []
-slotWords (Refused e) = classOf e ∷ reasonOf e ∷ 0 ∷ 0 ∷ []
+slotWords s = slotClass s ∷ slotReason s ∷ flag (presence s) ∷ wordIn s ∷ []
 
 -- whether there is a record, its index, how many records there are from it on, where they start in the payload
 unfoldable pub floorWords : Answer → List ℕ
@@ -70,15 +68,7 @@ rootText r = r .uuid ++ r .label .bytes
 
 -- what is asked of a page has a UUID of 16 bytes, a kind of 1 to 4, and a level of at most 255
 unfoldable pub isAsked : ℕ → ℕ → ℕ → Bool
-isAsked size kind level = eqb size 16 && leb 1 kind && leb kind 4 && leb level 255
-
--- 01, section 4: tree kind 1 catalog, 2 allocation, 3 cleanup, 4 workspace (`proofs/Answers`: `kind-back`)
-unfoldable pub kindOf : ℕ → TreeKind
-kindOf n = cond (eqb n 1) TreeKind.Catalog (cond (eqb n 2) TreeKind.Allocation (cond (eqb n 3) TreeKind.Cleanup TreeKind.Workspace))
-
--- level 255 is a level that isn't given
-unfoldable pub expectedOf : ℕ → Expected
-expectedOf n = cond (eqb n 255) Expected.Any (Expected.Exactly n)
+isAsked size kind level = eqb size 16 && isTreeKindValue kind && leb level 255
 
 -- class, reason, level, total, count, where the payload starts, its length
 unfoldable pub pageWords : Page → List ℕ
@@ -86,7 +76,7 @@ pageWords p = p .class ∷ p .reason ∷ p .level ∷ p .«data_blocks» ∷ p .
 
 unfoldable pub pageAnswer : List ℕ → ℕ → ℕ → List ℕ → ℕ → ℕ → ℕ → ℕ → List ℕ
 pageAnswer bytes block generation uuid kind parent level blocks =
-    pageWords (decodePage (record { block = block; generation = generation }) uuid (kindOf kind) parent (expectedOf level) blocks bytes)
+    pageWords (decodePage (record { block = block; generation = generation }) uuid (treeKindOf kind) parent (expectedOf level) blocks bytes)
 
 -- what a page's call answers: 2 for what can't be asked
 abbrev pub pageStatus : Bool → Bool → ℕ

@@ -6,17 +6,15 @@ ghost use Prim.Native.Nat.{_+_, _≤_};
 ghost use lib.ListN.{length};
 ghost use Rattle.crc.specs.Crc.{extend, crc32c};
 ghost use Rattle.group.specs.Group.{checksumSlot};
-ghost use Rattle.lookup.specs.Floor.{over, answerOf, floorOf, scratchOf, stepOf};
+ghost use Rattle.lookup.specs.Floor.{over, answerAt, scratchOf, stepOf};
 ghost use Rattle.root.specs.Root.{rootDecode};
-ghost use Rattle.exports.specs.Words.{flag, overAt, room, statusOf, placed, slotWords, floorWords, stepWords, rootWords, rootText, isAsked, kindOf, expectedOf, pageWords, pageAnswer, pageStatus};
+ghost use Rattle.exports.specs.Words.{flag, overAt, room, statusOf, placed, slotWords, floorWords, stepWords, rootWords, rootText, isAsked, pageWords, pageAnswer, pageStatus};
 use group::Slot;
 use lookup::Answer;
 use lookup::Step;
-use page::Expected;
 use page::Page;
 use root::Decoded;
 use root::Root;
-use volume::TreeKind;
 use volume::TreeRef;
 
 // The checksum of `bytes`.
@@ -134,7 +132,7 @@ pub extern "C" fn carryfs_lookup(
     out: &mut [u64],
 ) -> u32
     ensures { λ r. ⌜ r ≡ statusOf (room 4 (now (out .entry))) ⌝ }
-    ensures { λ _. ⌜ now (out .exit) ≡ placed (room 4 (now (out .entry))) (floorWords (answerOf (length (now (payload .entry))) count (floorOf (now (payload .entry)) count (now (key .entry)) (length (now (scratch .entry)))))) (now (out .entry)) ⌝ }
+    ensures { λ _. ⌜ now (out .exit) ≡ placed (room 4 (now (out .entry))) (floorWords (answerAt (now (payload .entry)) count (now (key .entry)) (length (now (scratch .entry))))) (now (out .entry)) ⌝ }
     ensures { λ _. ⌜ now (scratch .exit) ≡ cond (room 4 (now (out .entry))) (scratchOf (now (payload .entry)) count (now (scratch .entry))) (now (scratch .entry)) ⌝ }
 {
     if out.len() < 4 {
@@ -216,32 +214,7 @@ pub extern "C" fn carryfs_root(
 fn is_asked(size: usize, kind: u32, level: u32) -> bool
     ensures { λ r. ⌜ r ≡ isAsked size kind level ⌝ }
 {
-    (size == 16) & (1 <= kind) & (kind <= 4) & (level <= 255)
-}
-
-fn kind_of(kind: u32) -> TreeKind
-    ensures { λ r. ⌜ r ≡ kindOf kind ⌝ }
-{
-    if kind == 1 {
-        return TreeKind::Catalog;
-    }
-    if kind == 2 {
-        return TreeKind::Allocation;
-    }
-    if kind == 3 {
-        return TreeKind::Cleanup;
-    }
-    TreeKind::Workspace
-}
-
-fn expected_of(level: u32) -> Expected
-    requires { ⌜ level ≤ 255 ⌝ }
-    ensures { λ r. ⌜ r ≡ expectedOf level ⌝ }
-{
-    if level == 255 {
-        return Expected::Any;
-    }
-    Expected::Exactly(level as u8)
+    (size == 16) & ((1 <= kind) & (kind <= 4)) & (level <= 255)
 }
 
 fn page_words(page: Page) -> [u64; 7]
@@ -273,9 +246,9 @@ fn page_answer(
 {
     let id = octets::copy16(uuid);
     let reference = TreeRef { block, generation };
-    let tree = kind_of(kind);
-    let expected = expected_of(level);
-    page_words(page::decode_page(bytes, reference, &id, tree, parent, expected, blocks))
+    let tree = volume::tree_kind_of(kind as u64);
+    let expected = page::expected_of(level as u8);
+    page_words(page::page_answer(bytes, reference, &id, tree, parent, expected, blocks))
 }
 
 // The page that a reference names.

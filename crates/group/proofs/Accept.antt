@@ -2,42 +2,36 @@
 use mathlib.Core.Path.{_≡_, refl}
 use mathlib.Core.Bool.{Bool, true, false, _||_}
 use mathlib.Core.List.{List}
-use Prim.Native.Nat.{ℕ, zero, suc, _<_}
-use native.Mathlib.Omega.{arith}
+use Prim.Native.Nat.{ℕ}
 use borrow.Author.Tests.{le-leb, leb-true, eq-eqb, eqb-true}
 use lib.Dec.{leb, eqb}
 use lib.ListN.{length}
 use Rattle.error.specs.declared.Validation.{Validation}
 use Rattle.error.specs.declared.Check.the-variants.{Passed}
-use Rattle.error.proofs.Chain.{all-hold, all-pass}
+use Rattle.error.proofs.Exactly.{all-hold, all-pass}
 use Rattle.error.proofs.Tests.{and-left, and-right, and-both}
-use Rattle.octets.specs.Below.{every}
 use Rattle.octets.specs.Number.{bigAt}
-use Rattle.octets.proofs.Below.{every-at}
-use Rattle.group.specs.Group.{present, word, stored, storedBytes, holeZero, isCompact, holesZero, rightSize, maxGroup, groupDemands, validateChecksumGroup}
-use Rattle.group.specs.Accept.{GroupHolds, GroupAccepted}
+use Rattle.octets.proofs.Below.{every-at, every-all}
+use Rattle.group.specs.Group.{present, word, storedSlots, storedBytes, holeZero, isCompact, holesZero, rightSize, maxChecksumGroup, groupDemands, validateChecksumGroup}
+use Rattle.group.specs.Accept.{GroupHolds, GroupExactly}
 use Rattle.group.proofs.Compact.{sized}
 
 holds : (key value : List ℕ) (mode : Validation) → validateChecksumGroup key value mode ≡ Passed → GroupHolds key value
 unfolding validateChecksumGroup isCompact holesZero
 holds key value mode e =
     let h = all-hold (groupDemands key value mode) e in
-    let size = sized (length value) (and-right (leb (bigAt key 9) maxGroup) (rightSize (length value)) (h .1 .0)) in
+    let size = sized (length value) (and-right (leb (bigAt key 9) maxChecksumGroup) (rightSize (length value)) (h .1 .0)) in
     record {
       key-long = leb-true 17 (length key) (h .0);
-      index = leb-true (bigAt key 9) maxGroup (and-left (leb (bigAt key 9) maxGroup) (rightSize (length value)) (h .1 .0));
+      index = leb-true (bigAt key 9) maxChecksumGroup (and-left (leb (bigAt key 9) maxChecksumGroup) (rightSize (length value)) (h .1 .0));
       size = size;
       ends = eqb-true (length value) (storedBytes value) (h .1 .1 .0);
-      holes = λ s l p. hole (present value s) (word value s) (every-at (holeZero value) (stored value) (h .1 .1 .1 .0) s l) p;
+      holes = λ s l p. hole (present value s) (word value s) (every-at (holeZero value) (storedSlots value) (h .1 .1 .1 .0) s l) p;
     }
   where
     hole : (b : Bool) (w : ℕ) → (b || eqb w 0) ≡ true → b ≡ false → w ≡ 0
     hole true w e p = cc
     hole false w e p = eqb-true w 0 e
-
-every-all : (f : ℕ → Bool) (n : ℕ) → ((s : ℕ) → s < n → f s ≡ true) → every f n ≡ true
-every-all f zero h = refl
-every-all f (suc n) h = rw (h n (omega arith), every-all f n (λ s l. h s (omega arith)))
 
 passes : (key value : List ℕ) (mode : Validation) → GroupHolds key value → validateChecksumGroup key value mode ≡ Passed
 unfolding validateChecksumGroup rightSize isCompact holesZero
@@ -45,10 +39,10 @@ passes key value mode h =
     all-pass (groupDemands key value mode) (
       le-leb 17 (length key) (h .key-long),
       (
-        and-both _ _ (le-leb (bigAt key 9) maxGroup (h .index)) (and-both _ _ (and-both _ _ (le-leb 36 (length value) (h .size .long)) (le-leb (length value) 1056 (h .size .short))) (eq-eqb _ 0 (h .size .whole))),
+        and-both _ _ (le-leb (bigAt key 9) maxChecksumGroup (h .index)) (and-both _ _ (and-both _ _ (le-leb 36 (length value) (h .size .long)) (le-leb (length value) 1056 (h .size .short))) (eq-eqb _ 0 (h .size .whole))),
         (
           eq-eqb (length value) (storedBytes value) (h .ends),
-          (every-all (holeZero value) (stored value) (λ s l. hole s (present value s) refl (h .holes s l)), tt),
+          (every-all (holeZero value) (storedSlots value) (λ s l. hole s (present value s) refl (h .holes s l)), tt),
         ),
       ),
     )
@@ -57,5 +51,5 @@ passes key value mode h =
     hole s true p z = rw p
     hole s false p z = rw (p, z p)
 
-pub group-accepted : GroupAccepted
-group-accepted key value mode = (holds key value mode, passes key value mode)
+pub group-exactly : GroupExactly
+group-exactly key value mode = (holds key value mode, passes key value mode)

@@ -10,7 +10,7 @@ use lib.ListN.{length, getD, drop}
 use lib.Seq.{getD-take, getD-drop, ext-getD}
 use Rattle.octets.specs.Bytes.{part, bit}
 use Rattle.octets.proofs.Digits.{field-same}
-use Rattle.group.specs.Group.{present, stored, checksumSlot, expandGroup}
+use Rattle.group.specs.Group.{present, storedSlots, checksumSlot, expandGroup}
 use Rattle.group.specs.Slots.{presence, wordIn}
 use Rattle.group.specs.Agree.{Same, GroupsAgree, ExpandedSlots, ExpandedGroupsAgree}
 use Rattle.octets.proofs.Below.{through-same}
@@ -29,8 +29,8 @@ module _ (g h : List ℕ) (ok : Good g) (ok′ : Good h) (same : (s : ℕ) → s
   present-same : (s : ℕ) → s < 256 → present g s ≡ present h s
   present-same s l = sym (slot-presence g ok s l) ∙ same s l .presence-same ∙ slot-presence h ok′ s l
 
-  stored-same : stored g ≡ stored h
-  unfolding stored
+  stored-same : storedSlots g ≡ storedSlots h
+  unfolding storedSlots
   stored-same = through-same (present g) (present h) 256 present-same
 
   length-same : length g ≡ length h
@@ -42,7 +42,7 @@ module _ (g h : List ℕ) (ok : Good g) (ok′ : Good h) (same : (s : ℕ) → s
       one-same (bit (getD g i 0) k) (bit (getD h i 0) k) (mod-lt _ (lit< tt)) (mod-lt _ (lit< tt))
       (sym (bit-of g i k m) ∙ present-same (8 * i + k) (omega arith) ∙ bit-of h i k m))
 
-  part-same : (s : ℕ) → s < stored g → part g (32 + 4 * s) 4 ≡ part h (32 + 4 * s) 4
+  part-same : (s : ℕ) → s < storedSlots g → part g (32 + 4 * s) 4 ≡ part h (32 + 4 * s) 4
   part-same s l =
       let o : ℕ = 32 + 4 * s in
       field-same g h o 4 (ok .bytes) (ok′ .bytes) (omega (arith, ok .ends)) (omega (arith, ok′ .ends, stored-same))

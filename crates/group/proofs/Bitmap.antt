@@ -13,7 +13,7 @@ use Rattle.octets.specs.Bytes.{bit}
 use Rattle.octets.specs.Below.{through}
 use Rattle.octets.proofs.Bit.{bit-above, bit-top, bit-of}
 use Rattle.group.specs.declared.Slot.{Slot}
-use Rattle.group.specs.Group.{present, stored}
+use Rattle.group.specs.Group.{present, storedSlots}
 use Rattle.octets.proofs.Below.{through-none, through-last, through-le}
 
 -- a byte that is 0
@@ -37,8 +37,8 @@ top g n p nz lt =
     rw q (ap (λ (x : ℕ). eqb x 1) (bit-above b (s % 8) (lt-of-lt-of-le (t .3) (pow-mono above))))) in
     omega (arith, last, e)
 
-pub stored-le : (g : List ℕ) → stored g ≤ 256
-unfolding stored
+pub stored-le : (g : List ℕ) → storedSlots g ≤ 256
+unfolding storedSlots
 stored-le g = through-le (present g) 256
 
 pub word-same : (r w : ℕ) → r ≡ w → Slot.Word r ≡ Slot.Word w

@@ -16,7 +16,8 @@ use Rattle.octets.specs.Below.{every}
 use Rattle.octets.proofs.Below.{through-last, through-true, through-above}
 use Rattle.octets.proofs.Bit.{bit-lt, bits-same, top-is-one, one-is-top, one-has-none}
 use Rattle.octets.proofs.Zero.{zero-at, zero-all}
-use Rattle.group.specs.Group.{present, stored, Sized, rightSize, isCompact, storedBytes, holeZero, holesZero}
+use Rattle.group.specs.Group.{present, storedSlots, rightSize, isCompact, storedBytes, holeZero, holesZero}
+use Rattle.group.specs.Accept.{Sized}
 
 -- ---- the size
 
@@ -57,8 +58,8 @@ module _ (g : List ℕ) (bytes : Bytes g) (m : ℕ) (in-map : m < 256) where
   top = byteAt g (m / 8)
 
   -- the code's test gives the last slot
-  pub last-of : top / 2 ^ (m % 8) ≡ 1 → ((i : ℕ) → m / 8 < i → i < 32 → byteAt g i ≡ 0) → stored g ≡ suc m
-  unfolding stored
+  pub last-of : top / 2 ^ (m % 8) ≡ 1 → ((i : ℕ) → m / 8 < i → i < 32 → byteAt g i ≡ 0) → storedSlots g ≡ suc m
+  unfolding storedSlots
   last-of one zeros = through-last (present g) m 256 in-map (eq-eqb _ 1 (one-is-top (byteAt g (m / 8)) (m % 8) one)) none
     where
       none : (s : ℕ) → m < s → s < 256 → present g s ≡ false
@@ -74,13 +75,13 @@ module _ (g : List ℕ) (bytes : Bytes g) (m : ℕ) (in-map : m < 256) where
               no-bit g s (ap (λ (x : ℕ). bit (byteAt g x) (s % 8)) q ∙ one-has-none (byteAt g (m / 8)) (m % 8) (s % 8) one (omega arith))
 
   -- and the last slot gives both halves of the test
-  module _ (ends : stored g ≡ suc m) where
+  module _ (ends : storedSlots g ≡ suc m) where
     above : (s : ℕ) → m < s → s < 256 → present g s ≡ false
-    unfolding stored
+    unfolding storedSlots
     above s l h = through-above (present g) 256 s (omega (arith, ends)) h
 
     pub top-of : top / 2 ^ (m % 8) ≡ 1
-    unfolding stored
+    unfolding storedSlots
     top-of =
         top-is-one (byteAt g (m / 8)) (m % 8) (bytes .below (m / 8))
         (eqb-true (bit (byteAt g (m / 8)) (m % 8)) 1 (through-true (present g) 256 m ends))
@@ -103,11 +104,11 @@ module _ (g : List ℕ) (bytes : Bytes g) (size : Sized (length g)) where
   byte : lastSlot g / 8 < 32
   byte = omega (arith, in-map)
 
-  ends-of : isCompact g ≡ true → stored g ≡ suc (lastSlot g)
+  ends-of : isCompact g ≡ true → storedSlots g ≡ suc (lastSlot g)
   unfolding isCompact
   ends-of e = omega (arith, eqb-true (length g) (storedBytes g) e, size .long, size .whole)
 
-  compact-of : stored g ≡ suc (lastSlot g) → isCompact g ≡ true
+  compact-of : storedSlots g ≡ suc (lastSlot g) → isCompact g ≡ true
   unfolding isCompact
   compact-of e = eq-eqb (length g) (storedBytes g) (omega (arith, e, size .long, size .whole))
 
@@ -149,5 +150,5 @@ pub holes-of : (r : Bool) (g : List ℕ) → isCompact g ≡ true → r ≡ ever
 unfolding isCompact holesZero
 holes-of r g e q =
     let ends : length g ≡ storedBytes g = eqb-true (length g) (storedBytes g) e in
-    let n : (length g - 32) / 4 ≡ stored g = omega arith in
+    let n : (length g - 32) / 4 ≡ storedSlots g = omega arith in
     rw n at q

@@ -11,14 +11,14 @@ use Rattle.error.specs.declared.Error.the-variants.{Corrupt}
 use Rattle.error.specs.declared.Validation.{Validation}
 use Rattle.error.specs.Demand.{outcome}
 use Rattle.error.specs.Reason as reason
-use Rattle.error.proofs.Chain.{all-hold}
+use Rattle.error.proofs.Exactly.{all-hold}
 use Rattle.error.proofs.Tests.{and-right}
 use Rattle.octets.specs.Below.{every}
 use Rattle.octets.specs.Bytes.{Bytes}
 use Rattle.octets.specs.Number.{bigAt}
 use Rattle.octets.proofs.Below.{every-at, through-held}
 use Rattle.group.specs.declared.Slot.{Slot}
-use Rattle.group.specs.Group.{present, word, stored, storedBytes, holeZero, isCompact, holesZero, rightSize, maxGroup, checksumSlot, groupDemands, validateChecksumGroup}
+use Rattle.group.specs.Group.{present, word, storedSlots, storedBytes, holeZero, isCompact, holesZero, rightSize, maxChecksumGroup, checksumSlot, groupDemands, validateChecksumGroup}
 use Rattle.group.specs.Slots.{presence, wordIn}
 use Rattle.group.specs.Agree.{Accepted}
 use Rattle.group.proofs.Bitmap.{stored-le}
@@ -30,14 +30,14 @@ pub record Good (g : List ℕ) : Type 0 where
   pub bytes : Bytes g
   pub long : 36 ≤ length g
   pub short : length g ≤ 1056
-  pub ends : length g ≡ 32 + 4 * stored g
-  pub holes : every (holeZero g) (stored g) ≡ true
+  pub ends : length g ≡ 32 + 4 * storedSlots g
+  pub holes : every (holeZero g) (storedSlots g) ≡ true
 
 pub good : (key g : List ℕ) (mode : Validation) → Accepted key g mode → Good g
 unfolding validateChecksumGroup isCompact holesZero
 good key g mode a =
     let holds = all-hold (groupDemands key g mode) (a .passed) in
-    let size = sized (length g) (and-right (leb (bigAt key 9) maxGroup) (rightSize (length g)) (holds .1 .0)) in
+    let size = sized (length g) (and-right (leb (bigAt key 9) maxChecksumGroup) (rightSize (length g)) (holds .1 .0)) in
     record {
       bytes = a .bytes;
       long = size .long;
@@ -62,8 +62,8 @@ module _ (g : List ℕ) (s : ℕ) where
   slot-out h = simp (le-ltb s 256 h)
 
 module _ (g : List ℕ) (ok : Good g) (s : ℕ) where
-  pub in-stored : s < 256 → present g s ≡ true → s < stored g
-  unfolding stored
+  pub in-stored : s < 256 → present g s ≡ true → s < storedSlots g
+  unfolding storedSlots
   in-stored h p = through-held (present g) 256 s h p
 
   pub slot-presence : s < 256 → presence (checksumSlot g s) ≡ present g s
@@ -74,15 +74,15 @@ module _ (g : List ℕ) (ok : Good g) (s : ℕ) where
       go false p = ap presence (slot-hole g s h (omega (arith, ok .long)) p)
 
   -- a hole among the stored slots holds zero
-  pub hole-zero : s < stored g → present g s ≡ false → word g s ≡ 0
-  hole-zero l p = go (present g s) (every-at (holeZero g) (stored g) (ok .holes) s l) p
+  pub hole-zero : s < storedSlots g → present g s ≡ false → word g s ≡ 0
+  hole-zero l p = go (present g s) (every-at (holeZero g) (storedSlots g) (ok .holes) s l) p
     where
       go : (b : Bool) → (b || eqb (word g s) 0) ≡ true → b ≡ false → word g s ≡ 0
       go true e p = cc
       go false e p = eqb-true (word g s) 0 e
 
   -- a stored word is what the slot's answer says, of a hole too
-  pub slot-word : s < stored g → word g s ≡ wordIn (checksumSlot g s)
+  pub slot-word : s < storedSlots g → word g s ≡ wordIn (checksumSlot g s)
   slot-word l = go (present g s) refl
     where
       h : s < 256

@@ -1,4 +1,4 @@
--- Demand 3 for checksum groups: two accepted groups are the same bytes exactly when all 256 slots agree.
+-- Demand 3 for checksum groups (01, "What demand 3 compares"): two accepted groups are the same bytes exactly when all 256 slots agree.
 use Prim.Native.Nat.{ℕ, _<_}
 use mathlib.Core.Path.{_≡_}
 use mathlib.Core.Logic.{_↔_}

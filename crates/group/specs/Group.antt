@@ -1,6 +1,5 @@
 -- Checksum groups (01, section 6): 32 bitmap bytes, then up to 256 words of four bytes.
-use Prim.Native.Nat.{ℕ, _+_, _-_, _*_, _/_, _%_, _^_, _≤_}
-use mathlib.Core.Path.{_≡_}
+use Prim.Native.Nat.{ℕ, _+_, _-_, _*_, _/_, _%_, _^_}
 use mathlib.Core.Bool.{Bool, not, _&&_, _||_, cond}
 use mathlib.Core.List.{List, [], _∷_}
 use lib.Dec.{ltb, leb, eqb}
@@ -25,12 +24,12 @@ abbrev pub word : List ℕ → ℕ → ℕ
 word g s = u32At g (32 + 4 * s)
 
 -- the slots of a stored group: through the last present one
-unfoldable pub stored : List ℕ → ℕ
-stored g = through (present g) 256
+unfoldable pub storedSlots : List ℕ → ℕ
+storedSlots g = through (present g) 256
 
 -- the bytes of a stored group
 abbrev pub storedBytes : List ℕ → ℕ
-storedBytes g = 32 + 4 * stored g
+storedBytes g = 32 + 4 * storedSlots g
 
 -- `checksum_slot`: there are 256 slots, the bitmap is whole, and a present slot's word lies within the group
 abbrev pub slotDemands : List ℕ → ℕ → List Demand
@@ -54,12 +53,6 @@ expandGroup value = paddedTo 1056 value
 unfoldable pub rightSize : ℕ → Bool
 rightSize n = leb 36 n && leb n 1056 && eqb ((n - 32) % 4) 0
 
--- the same, plainly
-pub record Sized (n : ℕ) : Type 0 where
-  pub long : 36 ≤ n
-  pub short : n ≤ 1056
-  pub whole : (n - 32) % 4 ≡ 0
-
 -- a stored group ends at its last present slot
 unfoldable pub isCompact : List ℕ → Bool
 isCompact value = eqb (length value) (storedBytes value)
@@ -70,17 +63,17 @@ holeZero g s = present g s || eqb (word g s) 0
 
 -- a stored group holds zero in each hole
 unfoldable pub holesZero : List ℕ → Bool
-holesZero value = every (holeZero value) (stored value)
+holesZero value = every (holeZero value) (storedSlots value)
 
 -- the largest index of a group: a file has 2^63 - 1 bytes at most, a group 256 units of 65,536
-abbrev pub maxGroup : ℕ
-maxGroup = (2 ^ 63 - 1) / (256 * 65536)
+abbrev pub maxChecksumGroup : ℕ
+maxChecksumGroup = (2 ^ 63 - 1) / (256 * 65536)
 
 -- `validate_checksum_group` (01, section 5: a key under 17 bytes is refused before the value is looked at)
 abbrev pub groupDemands : List ℕ → List ℕ → Validation → List Demand
 groupDemands key value mode =
     leb 17 (length key) otherwise violationOf mode reason.invalidCatalogKey
-    ∷ (leb (bigAt key 9) maxGroup && rightSize (length value)) otherwise violationOf mode reason.invalidChecksumGroup
+    ∷ (leb (bigAt key 9) maxChecksumGroup && rightSize (length value)) otherwise violationOf mode reason.invalidChecksumGroup
     ∷ isCompact value otherwise violationOf mode reason.checksumGroupIsNotCompact
     ∷ holesZero value otherwise violationOf mode reason.holeChecksumIsNonzero
     ∷ []

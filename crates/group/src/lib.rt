@@ -5,7 +5,8 @@ ghost use Prim.Native.Nat.{_+_, _*_, _≤_};
 ghost use lib.ListN.{length};
 ghost use denote.Ref.{ptr};
 ghost use Rattle.octets.specs.Below.{every};
-ghost use Rattle.group.specs.Group.{checksumSlot, compactGroup, expandGroup, validateChecksumGroup, stored, rightSize, Sized, isCompact, holeZero, holesZero};
+ghost use Rattle.group.specs.Group.{checksumSlot, compactGroup, expandGroup, validateChecksumGroup, storedSlots, rightSize, isCompact, holeZero, holesZero};
+ghost use Rattle.group.specs.Accept.{Sized};
 use error::Check;
 use error::Error;
 use error::Validation;
@@ -45,7 +46,7 @@ pub fn checksum_slot(group: &[u8], slot: usize) -> Slot
 // How many slots the stored form of a group holds: through the last present one.
 fn stored_slots(group: &[u8]) -> usize
     requires { ⌜ 32 ≤ length (now group) ⌝ }
-    ensures { λ r. ⌜ (r ≡ stored (now (group .entry))) × (r ≤ 256) ⌝ }
+    ensures { λ r. ⌜ (r ≡ storedSlots (now (group .entry))) × (r ≤ 256) ⌝ }
 {
     let mut n: usize = 32;
     while n > 0 {

@@ -3,17 +3,17 @@ use mathlib.Core.Path.{_≡_, refl, sym, ap, _∙_}
 use mathlib.Core.Bool.{Bool, true, false, cond}
 use mathlib.Core.List.{List}
 use Prim.Native.Nat.{ℕ, _+_, _-_, _*_, _<_, _≤_}
-use native.Mathlib.Nat.{sub-self}
 use native.Mathlib.Omega.{arith}
 use lib.Dec.{leb}
 use lib.ListN.{length, take, drop, length-drop}
-use lib.Seq.{take-all, drop-drop}
+use lib.Seq.{drop-drop}
 use borrow.Author.Tests.{le-leb, lt-leb, leb-true}
 use Rattle.octets.specs.Bytes.{byteAt, part}
 use Rattle.octets.specs.Number.{field, u16At}
 use Rattle.octets.proofs.Join.{field-join, field-one}
 use Rattle.octets.specs.Order.{order, isGreater}
-use Rattle.lookup.specs.Record.{keyLen, valueLen, recordLen, split, isRecord, sizeOf, isAbove, look, keyOf, endSplit, endOf}
+use Rattle.lookup.specs.Record.{keyLen, valueLen, recordLen, split, isRecord, sizeOf, isAbove, look, keyOf}
+use Rattle.lookup.specs.Inside.{endSplit, endOf}
 use Rattle.lookup.specs.declared.Split.{Split}
 use Rattle.lookup.specs.declared.Split.the-variants.{Record, Broken}
 use Rattle.lookup.specs.declared.End.{End}
@@ -93,17 +93,6 @@ look-is s key z e = go (split s) refl
         let f : Above ≡ Size z = rw p at e in
         let g : _≡_ {A = ℕ} 0 1 = cc in
         (omega arith, omega arith)
-
--- a part from a on, as a call has it
-pub part-from : (s : List ℕ) (a : ℕ) → take (length s - a) (drop a s) ≡ drop a s
-part-from s a = take-all (length s - a) (drop a s) (rw length-drop (omega arith))
-
--- a part from a place up to another: past the end, and where they are out of order
-pub span-over : (s r : List ℕ) (a e : ℕ) → length s < e → r ≡ drop a s → r ≡ part s a (e - a)
-span-over s r a e h p = p ∙ sym (take-all (e - a) (drop a s) (rw length-drop (omega arith)))
-
-pub span-none : (s : List ℕ) (a e : ℕ) → e < a → part s (length s) (length s - length s) ≡ part s a (e - a)
-span-none s a e h = let z : e - a ≡ 0 = omega arith in rw (z, sub-self)
 
 -- ---- a whole record at a place of a part
 pub above-is : (s key : List ℕ) → isRecord (split s) ≡ true → isAbove (look s key) ≡ isGreater (order (keyOf s) key)

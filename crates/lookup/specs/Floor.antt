@@ -62,10 +62,14 @@ floorOf part count key entries =
 unfoldable pub scratchOf : List ℕ → ℕ → List ℕ → List ℕ
 scratchOf part count scratch = cond (ltb 65535 (length part)) scratch (cond (ltb (length scratch) count) scratch (over (written part count 0) scratch))
 
--- the answer in numbers: whether there is a record, its index, how many records there are from it on, and where it starts. Where there is none 0, 0 and the part's end, from which the rest is an empty part
+-- the answer in numbers: whether there is a record, its index, how many records there are from it on, and where these start and end in the part. Where there is none each is 0
 abbrev pub answerOf : ℕ → ℕ → Floor → Answer
-answerOf len count (At i o) = record { found = true; index = i; remaining = count - i; from = o }
-answerOf len count Nothing = record { found = false; index = 0; remaining = 0; from = len }
+answerOf len count (At i o) = record { found = true; index = i; remaining = count - i; from = o; end = len }
+answerOf len count Nothing = record { found = false; index = 0; remaining = 0; from = 0; end = 0 }
+
+-- the lookup's answer on a part with so many records, lent a scratch of so many entries
+abbrev pub answerAt : List ℕ → ℕ → List ℕ → ℕ → Answer
+answerAt part count key entries = answerOf (length part) count (floorOf part count key entries)
 
 -- the next record of n that are left: where its key starts and ends, where its value ends, and how many are left after it
 abbrev pub noStep : ℕ → Step

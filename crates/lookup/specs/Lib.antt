@@ -2,3 +2,4 @@ pub mod Record
 pub mod Floor
 pub mod Sorted
 pub mod Cases
+pub mod Inside

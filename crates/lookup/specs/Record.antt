@@ -3,13 +3,12 @@ use Prim.Native.Nat.{ℕ, _+_}
 use mathlib.Core.List.{List}
 use mathlib.Core.Bool.{Bool, true, false, cond}
 use lib.Dec.{leb}
-use lib.ListN.{length, drop}
+use lib.ListN.{length}
 use Rattle.octets.specs.Bytes.{part}
 use Rattle.octets.specs.Number.{u16At}
 use Rattle.octets.specs.Order.{order, isGreater}
 use Rattle.lookup.specs.declared.Split.{Split}
 use Rattle.lookup.specs.declared.Split.the-variants.{Record, Broken}
-use Rattle.lookup.specs.declared.End.{End}
 use Rattle.lookup.specs.declared.Look.{Look}
 use Rattle.lookup.specs.declared.Look.the-variants.{Above, Size}
 
@@ -54,11 +53,3 @@ look s key = lookSplit s key (split s)
 abbrev pub isAbove : Look → Bool
 isAbove Above = true
 isAbove (Size n) = false
-
--- where the record at a place of s ends
-abbrev pub endSplit : ℕ → Split → End
-endSplit at (Record k v) = End.At (at + (4 + k + v))
-endSplit at Broken = End.Broken
-
-unfoldable pub endOf : List ℕ → ℕ → End
-endOf s at = endSplit at (split (drop at s))

@@ -33,9 +33,10 @@ abbrev pub Answers : List ℕ → ℕ → List ℕ → Floor → Type 0
 Answers part count key (At i o) = (i < count) × (o ≡ offsetOf part i) × (keyAbove part key i ≡ false) × ((j : ℕ) → i < j → j < count → keyAbove part key j ≡ true)
 Answers part count key Nothing = (j : ℕ) → j < count → keyAbove part key j ≡ true
 
--- so walking and halving find the same record, whatever the scratch holds and however long it is
+-- on such a part every lookup answers so
 abbrev pub FloorIsTheLast : Type 0
 FloorIsTheLast = (part key : List ℕ) (count : ℕ) → Sorted part count → (entries : ℕ) → length part ≤ 65535 → Answers part count key (floorOf part count key entries)
 
+-- so walking and halving find the same record, whatever the scratch holds and however long it is
 abbrev pub WalkingIsHalving : Type 0
 WalkingIsHalving = (part key : List ℕ) (count : ℕ) → Sorted part count → (entries entries′ : ℕ) → floorOf part count key entries ≡ floorOf part count key entries′

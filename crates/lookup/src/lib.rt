@@ -3,10 +3,10 @@ ghost use mathlib.Core.Path.{_≡_};
 ghost use mathlib.Core.Bool.{true};
 ghost use Prim.Native.Nat.{ℕ, _+_, _-_, _<_, _≤_};
 ghost use lib.ListN.{length, getD, drop};
-ghost use Rattle.octets.specs.Bytes.{part as partOf};
 ghost use Rattle.octets.specs.Number.{u16At};
-ghost use Rattle.lookup.specs.Record.{split, isRecord, look, endOf};
-ghost use Rattle.lookup.specs.Floor.{written, unbroken, over, above, bisect, before, walk, floorOf, scratchOf, answerOf, stepOf};
+ghost use Rattle.lookup.specs.Record.{split, isRecord, look};
+ghost use Rattle.lookup.specs.Inside.{endOf};
+ghost use Rattle.lookup.specs.Floor.{written, unbroken, over, above, bisect, before, walk, floorOf, scratchOf, answerAt, stepOf};
 
 // What stands at the start of a part: a record, or too few bytes for one.
 pub enum Split {
@@ -192,16 +192,17 @@ pub fn floor_at(part: &[u8], count: usize, key: &[u8], scratch: &mut [u16]) -> F
     }
 }
 
-// The answer of a floor lookup in numbers.
+// The answer of a floor lookup in numbers; where there is no record each is 0.
 pub struct Answer {
     pub found: bool,
     pub index: usize,
     pub remaining: usize,
     pub from: usize,
+    pub end: usize,
 }
 
 pub fn floor_answer(part: &[u8], count: usize, key: &[u8], scratch: &mut [u16]) -> Answer
-    ensures { λ r. ⌜ (r ≡ answerOf (length (now (part .entry))) count (floorOf (now (part .entry)) count (now (key .entry)) (length (now (scratch .entry))))) × (now (scratch .exit) ≡ scratchOf (now (part .entry)) count (now (scratch .entry))) ⌝ }
+    ensures { λ r. ⌜ (r ≡ answerAt (now (part .entry)) count (now (key .entry)) (length (now (scratch .entry)))) × (now (scratch .exit) ≡ scratchOf (now (part .entry)) count (now (scratch .entry))) ⌝ }
 {
     match floor_at(part, count, key, scratch) {
         Floor::At {
@@ -212,25 +213,15 @@ pub fn floor_answer(part: &[u8], count: usize, key: &[u8], scratch: &mut [u16]) 
             index,
             remaining: count - index,
             from,
+            end: part.len(),
         },
         Floor::Nothing => Answer {
             found: false,
             index: 0,
             remaining: 0,
-            from: part.len(),
+            from: 0,
+            end: 0,
         },
-    }
-}
-
-// A part from a place on, and nothing where the place is past its end.
-pub fn tail(part: &[u8], from: usize) -> &[u8]
-    ensures { λ r. ⌜ now r ≡ drop from (now (part .entry)) ⌝ }
-{
-    if from <= part.len() {
-        &part[from..]
-    } else {
-        let end = part.len();
-        &part[end..]
     }
 }
 
@@ -276,18 +267,4 @@ pub fn next_record(part: &[u8], remaining: usize) -> Step
             remaining,
         }
     }
-}
-
-// The part from start up to end, as far as the bytes go.
-pub fn span(part: &[u8], start: usize, end: usize) -> &[u8]
-    ensures { λ r. ⌜ now r ≡ partOf (now (part .entry)) start (end - start) ⌝ }
-{
-    let length = part.len();
-    if length < end {
-        return tail(part, start);
-    }
-    if end < start {
-        return &part[length..];
-    }
-    &part[start..end]
 }

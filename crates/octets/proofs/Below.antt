@@ -1,13 +1,13 @@
 -- Laws of `every` and `through`: a test at each number below n, and the last number below n at which it holds.
 use mathlib.Core.Path.{_≡_, refl, sym, ap, _∙_}
-use mathlib.Core.Bool.{Bool, true, false, cond, _&&_}
+use mathlib.Core.Bool.{Bool, true, false, cond, _&&_, and-false}
 use mathlib.Core.Logic.{_⊎_, inl, inr}
 use Prim.Native.Nat.{ℕ, zero, suc, _+_, _≤_, _<_}
 use native.Mathlib.Nat.{eq-or-lt-of-le, le-of-suc-le-suc, not-suc-le-zero}
 use native.Mathlib.Numerals.{add-one}
 use native.Mathlib.Omega.{arith}
 use Rattle.octets.specs.Below.{every, through}
-use Rattle.error.proofs.Tests.{and-left, and-right, and-false}
+use Rattle.error.proofs.Tests.{and-left, and-right}
 
 -- the last number below suc n, or one before it
 last : {i n : ℕ} → i < suc n → (i ≡ n) ⊎ (i < n)
@@ -20,6 +20,10 @@ every-at f (suc n) e i h = go (every-at f n (and-right (f n) (every f n) e) i) (
     go : (i < n → f i ≡ true) → (i ≡ n) ⊎ (i < n) → f i ≡ true
     go rest (inl p) = ap f p ∙ and-left (f n) (every f n) e
     go rest (inr l) = rest l
+
+pub every-all : (f : ℕ → Bool) (n : ℕ) → ((i : ℕ) → i < n → f i ≡ true) → every f n ≡ true
+every-all f zero h = refl
+every-all f (suc n) h = rw (h n (omega arith), every-all f n (λ i l. h i (omega arith)))
 
 pub every-false : (f : ℕ → Bool) (n i : ℕ) → i < n → f i ≡ false → every f n ≡ false
 every-false f zero i h e = absurd (not-suc-le-zero h)

@@ -12,7 +12,8 @@ use lib.ListN.{length, drop, take-append-drop}
 use lib.Seq.{drop-drop}
 use Rattle.octets.specs.Bytes.{Bytes, byteAt, part}
 use Rattle.octets.specs.Number.{big}
-use Rattle.octets.specs.Order.{order, isGreater, FrontSays}
+use Rattle.octets.specs.Order.{order, isGreater}
+use Rattle.octets.specs.Inside.{FrontSays}
 use Rattle.octets.specs.declared.Front.{Front}
 use Rattle.octets.specs.declared.Order.the-variants.{Less, Greater}
 use Rattle.octets.proofs.Digits.{bytes-part}

@@ -19,6 +19,9 @@ take-le (suc n) (x ∷ l) (suc i) = take-le n l i
 pub bytes-part : (s : List ℕ) (o w : ℕ) → Bytes s → Bytes (part s o w)
 bytes-part s o w b = record { below = λ i. omega (arith, take-le w (drop o s) i, getD-drop o s i 0, b .below (o + i)) }
 
+pub bytes-drop : (s : List ℕ) (n : ℕ) → Bytes s → Bytes (drop n s)
+bytes-drop s n b = record { below = λ i. omega (arith, getD-drop n s i 0, b .below (n + i)) }
+
 pub little-same : (a b : List ℕ) → length a ≡ length b → Bytes a → Bytes b → little a ≡ little b → a ≡ b
 little-same [] [] n p q e = refl
 little-same [] (y ∷ b) n p q e = let z : _≡_ {A = ℕ} 0 1 = omega arith in cc

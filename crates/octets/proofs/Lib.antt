@@ -3,6 +3,7 @@ pub mod Bit
 pub mod Join
 pub mod Digits
 pub mod Padded
+pub mod Parts
 pub mod Within
 pub mod Zero
 pub mod Same

@@ -1,6 +1,6 @@
 -- Two lists of bytes, compared from the front.
 use mathlib.Core.Path.{_≡_, refl, sym, ap, ap₂}
-use mathlib.Core.Bool.{true, false, _&&_}
+use mathlib.Core.Bool.{true, false, and-false}
 use mathlib.Core.List.{List, [], _∷_}
 use Prim.Native.Nat.{ℕ, suc, _+_, _≤_, _<_}
 use native.Mathlib.Numerals.{add-one}
@@ -9,7 +9,7 @@ use borrow.Author.Tests.{eq-eqb, ne-eqb, eqb-true}
 use lib.Dec.{eqb}
 use lib.ListN.{length, getD, take, drop, drop-of-length-le, length-take}
 use lib.Seq.{drop-cons}
-use Rattle.error.proofs.Tests.{and-false, and-left, and-right}
+use Rattle.error.proofs.Tests.{and-left, and-right}
 use Rattle.octets.specs.Bytes.{sameBytes}
 
 pub same-length : (a b : List ℕ) → (length a ≡ length b → ⊥) → false ≡ sameBytes a b

@@ -1,6 +1,6 @@
 -- Bytes joined by `|` are 0 where each is.
 use mathlib.Core.Path.{_≡_, refl, _∙_}
-use mathlib.Core.Bool.{Bool, true, false, _&&_}
+use mathlib.Core.Bool.{Bool, true, false, _&&_, and-true}
 use mathlib.Core.Logic.{_⊎_, inl, inr}
 use mathlib.Core.List.{List, [], _∷_, _++_}
 use Prim.Native.Nat.{ℕ, zero, suc, _<_}
@@ -11,7 +11,7 @@ use lib.Dec.{eqb}
 use borrow.Author.Tests.{ne-eqb, eqb-true}
 use lib.ListN.{length, take, getD}
 use lib.Seq.{take-suc}
-use Rattle.error.proofs.Tests.{and-true, and-left, and-right}
+use Rattle.error.proofs.Tests.{and-left, and-right}
 use Rattle.octets.specs.Bytes.{allZero}
 
 snoc : (s : List ℕ) (b : ℕ) → allZero (s ++ (b ∷ [])) ≡ (allZero s && eqb b 0)

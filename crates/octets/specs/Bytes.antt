@@ -1,9 +1,11 @@
 -- Lists of bytes: parts, bits, and comparisons.
-use Prim.Native.Nat.{ℕ, _-_, _/_, _%_, _^_, _<_}
+use Prim.Native.Nat.{ℕ, _+_, _-_, _/_, _%_, _^_, _<_, min}
+use mathlib.Core.Path.{_≡_}
 use mathlib.Core.Bool.{Bool, true, false, _&&_}
 use mathlib.Core.List.{List, [], _∷_, _++_}
 use lib.Dec.{eqb}
 use lib.ListN.{length, getD, take, drop, replicate}
+use denote.Ref.{RefT, ptr, now}
 
 -- each element is a byte
 pub record Bytes (s : List ℕ) : Type 0 where
@@ -16,6 +18,20 @@ byteAt s offset = getD s offset 0
 -- the part that starts at an offset and is so many bytes wide, as far as the bytes go
 abbrev pub part : List ℕ → ℕ → ℕ → List ℕ
 part s offset width = take width (drop offset s)
+
+-- where in memory the byte at an offset of lent bytes stands; past their last byte, where they end
+abbrev pub placeIn : RefT (List ℕ) → ℕ → ℕ × ℕ
+placeIn lent offset = (ptr lent .0, ptr lent .1 + min offset (length (now lent)))
+
+-- the lent bytes from an offset on, so many, in the lender's own memory
+pub record IsPart (lent : RefT (List ℕ)) (offset width : ℕ) (r : RefT (List ℕ)) : Type 0 where
+  pub bytes : now r ≡ part (now lent) offset width
+  pub place : ptr r ≡ placeIn lent offset
+
+-- the same up to their end
+pub record IsRest (lent : RefT (List ℕ)) (offset : ℕ) (r : RefT (List ℕ)) : Type 0 where
+  pub bytes : now r ≡ drop offset (now lent)
+  pub place : ptr r ≡ placeIn lent offset
 
 -- the first n bytes, then zeros up to n bytes
 abbrev pub paddedTo : ℕ → List ℕ → List ℕ

@@ -3,3 +3,4 @@ pub mod Number
 pub mod Order
 pub mod Below
 pub mod Reads
+pub mod Inside

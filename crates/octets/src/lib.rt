@@ -1,12 +1,13 @@
 // Bytes: stored numbers at an offset, numbers inside keys, zeros, copies, and comparisons.
 ghost use mathlib.Core.Path.{_≡_};
-ghost use Prim.Native.Nat.{_+_, _≤_, _<_, _^_, min};
+ghost use Prim.Native.Nat.{_+_, _-_, _≤_, _<_, _^_, min};
 ghost use lib.Dec.{leb};
 ghost use lib.ListN.{length, drop};
-ghost use Rattle.octets.specs.Bytes.{byteAt, part, paddedTo, allZero, sameBytes, startsWith};
+ghost use Rattle.octets.specs.Bytes.{byteAt, part, IsPart, IsRest, paddedTo, allZero, sameBytes, startsWith};
 ghost use Rattle.octets.specs.Number.{big, field, u16At, u32At, u64At, bigAt};
-ghost use Rattle.octets.specs.Order.{order, isGreater, FrontSays};
-ghost use Rattle.octets.specs.Reads.{read16, read32, read64};
+ghost use Rattle.octets.specs.Order.{order, isGreater};
+ghost use Rattle.octets.specs.Inside.{FrontSays};
+ghost use Rattle.octets.specs.Reads.{readOf, number16, number32};
 use error::Error;
 use error::Number;
 
@@ -67,7 +68,7 @@ fn lies_within(length: usize, offset: usize, width: usize) -> bool
 
 // The number at an offset, or corruption with the caller's reason.
 pub fn read_u16_le(bytes: &[u8], offset: usize, reason: u16) -> Read16
-    ensures { λ r. ⌜ r ≡ read16 (now (bytes .entry)) offset reason ⌝ }
+    ensures { λ r. ⌜ number16 r ≡ readOf (now (bytes .entry)) offset 2 reason ⌝ }
 {
     if !lies_within(bytes.len(), offset, 2) {
         return Read16::Refused(Error::Corrupt(reason));
@@ -76,7 +77,7 @@ pub fn read_u16_le(bytes: &[u8], offset: usize, reason: u16) -> Read16
 }
 
 pub fn read_u32_le(bytes: &[u8], offset: usize, reason: u16) -> Read32
-    ensures { λ r. ⌜ r ≡ read32 (now (bytes .entry)) offset reason ⌝ }
+    ensures { λ r. ⌜ number32 r ≡ readOf (now (bytes .entry)) offset 4 reason ⌝ }
 {
     if !lies_within(bytes.len(), offset, 4) {
         return Read32::Refused(Error::Corrupt(reason));
@@ -85,7 +86,7 @@ pub fn read_u32_le(bytes: &[u8], offset: usize, reason: u16) -> Read32
 }
 
 pub fn read_u64_le(bytes: &[u8], offset: usize, reason: u16) -> Number
-    ensures { λ r. ⌜ r ≡ read64 (now (bytes .entry)) offset reason ⌝ }
+    ensures { λ r. ⌜ r ≡ readOf (now (bytes .entry)) offset 8 reason ⌝ }
 {
     if !lies_within(bytes.len(), offset, 8) {
         return Number::Refused(Error::Corrupt(reason));
@@ -188,6 +189,32 @@ pub fn big_at(key: &[u8], at: usize) -> u64
         return 0;
     }
     be64(key, at)
+}
+
+// The part from a place on, the caller's own memory; nothing where the place is past its end.
+pub fn tail(bytes: &[u8], from: usize) -> &[u8]
+    ensures { λ r. ⌜ IsRest (bytes .entry) from r ⌝ }
+{
+    let end = bytes.len();
+    if end < from {
+        return &bytes[end..];
+    }
+    &bytes[from..]
+}
+
+// The part from start up to end, as far as the bytes go, the caller's own memory.
+pub fn span(bytes: &[u8], start: usize, end: usize) -> &[u8]
+    ensures { λ r. ⌜ IsPart (bytes .entry) start (end - start) r ⌝ }
+{
+    let rest = tail(bytes, start);
+    if end < start {
+        return &rest[..0];
+    }
+    let width = end - start;
+    if rest.len() < width {
+        return rest;
+    }
+    &rest[..width]
 }
 
 // Whether every byte is zero. No early way out: valid bytes are all zero.

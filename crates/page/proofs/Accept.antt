@@ -1,5 +1,5 @@
 -- A page is accepted exactly when each of its rules holds.
-use mathlib.Core.Path.{_≡_, refl}
+use mathlib.Core.Path.{_≡_, refl, sym, ap, _∙_}
 use mathlib.Core.Bool.{Bool, true, false, not, _&&_, _||_}
 use mathlib.Core.Logic.{_⊎_, inl, inr}
 use mathlib.Core.List.{List}
@@ -9,9 +9,10 @@ use borrow.Author.Tests.{le-leb, leb-true, eq-eqb, ne-eqb, eqb-true}
 use lib.Dec.{leb, eqb}
 use lib.ListN.{length}
 use Rattle.error.specs.declared.Validation.the-variants.{Input}
-use Rattle.error.specs.declared.Check.the-variants.{Passed}
-use Rattle.error.specs.Answer.{numberCheck, valueOf}
-use Rattle.error.proofs.Chain.{all-hold, all-pass, passed-is, passed-test}
+use Rattle.error.specs.declared.Check.{Check}
+use Rattle.error.specs.declared.Check.the-variants.{Passed, Refused}
+use Rattle.error.specs.Answer.{numberCheck, numberOf}
+use Rattle.error.proofs.Exactly.{all-hold, all-pass, passed-is, passed-test, by, outcome-by, class-some}
 use Rattle.error.proofs.Tests.{and-left, and-right, and-both, not-yes}
 use Rattle.octets.specs.Bytes.{byteAt, part, allZero}
 use Rattle.octets.specs.Number.{u16At, u32At}
@@ -21,9 +22,10 @@ use Rattle.volume.specs.declared.TreeRef.{TreeRef}
 use Rattle.volume.specs.declared.TreeKind.{TreeKind}
 use Rattle.volume.specs.References.{treeKindValue, validateBlocks, validatePageRef, validateUuid}
 use Rattle.page.specs.declared.Expected.{Expected}
-use Rattle.page.specs.Header.{magic, pageKind, treeKind, level, selfBlock, generation, count, payloadLength, total, callerDemands, callerCheck, checksumFits, formatDemands, formatCheck, isPageKind, isTreeKind, levelFits, reservedZero, isOfTree, kindDemands, kindCheck, isReferred, hasUuid, identityDemands, identityCheck, headerDemands, validatePageHeader}
-use Rattle.page.specs.Page.{walked, totalFits, paddingZero, enoughChildren, contentDemands, contentCheck, pageDemands, pageCheck}
-use Rattle.page.specs.Accept.{CallerHolds, HeaderHolds, ContentHolds, PageHolds, PageAccepted}
+use Rattle.page.specs.declared.Page.{Page}
+use Rattle.page.specs.Header.{magic, pageKind, treeKind, level, selfBlock, generation, count, payloadLength, total, callerDemands, checkCaller, checksumFits, formatDemands, checkFormat, isPageKind, isTreeKind, levelFits, reservedZero, isOfTree, kindDemands, checkKind, isReferred, hasUuid, identityDemands, checkIdentity, headerDemands, validatePageHeader}
+use Rattle.page.specs.Page.{walked, totalFits, paddingZero, enoughChildren, contentDemands, checkContent, pageDemands, checkPage, refusedPage, acceptedPage, decodePage}
+use Rattle.page.specs.Accept.{CallerHolds, HeaderHolds, ContentHolds, PageHolds, PageExactly}
 
 -- ---- tests that ask only under a condition
 
@@ -45,8 +47,8 @@ one-of false b e = inr e
 -- ---- from the chain to the rules
 
 module _ (reference : TreeRef) (uuid : List ℕ) (kind : TreeKind) (parent : ℕ) (expected : Expected) (blocks : ℕ) (page : List ℕ) where
-  caller-holds : callerCheck reference uuid kind parent expected blocks page ≡ Passed → CallerHolds reference uuid kind parent expected blocks page
-  unfolding callerCheck
+  caller-holds : checkCaller reference uuid kind parent expected blocks page ≡ Passed → CallerHolds reference uuid kind parent expected blocks page
+  unfolding checkCaller
   caller-holds e =
       let h = all-hold (callerDemands reference uuid kind parent expected blocks page) e in
       let p = h .1 .1 .1 .1 .0 in
@@ -63,8 +65,8 @@ module _ (reference : TreeRef) (uuid : List ℕ) (kind : TreeKind) (parent : ℕ
       given : not (eqb parent 0) ≡ true → parent ≡ 0 → ⊥
       given t z = let n : false ≡ true = rw (eq-eqb parent 0 z) at t in let k : _≡_ {A = ℕ} 0 1 = cc in omega arith
 
-  caller-passes : CallerHolds reference uuid kind parent expected blocks page → callerCheck reference uuid kind parent expected blocks page ≡ Passed
-  unfolding callerCheck
+  caller-passes : CallerHolds reference uuid kind parent expected blocks page → checkCaller reference uuid kind parent expected blocks page ≡ Passed
+  unfolding checkCaller
   caller-passes h =
       all-pass (callerDemands reference uuid kind parent expected blocks page) (
         eq-eqb (length page) 4096 (h .size),
@@ -83,8 +85,8 @@ module _ (reference : TreeRef) (uuid : List ℕ) (kind : TreeKind) (parent : ℕ
         ),
       )
 
-  header-holds : formatCheck page ≡ Passed → kindCheck kind expected page ≡ Passed → identityCheck reference uuid kind parent blocks page ≡ Passed → HeaderHolds reference uuid kind parent expected blocks page
-  unfolding formatCheck kindCheck identityCheck checksumFits isPageKind levelFits reservedZero isOfTree isReferred hasUuid
+  header-holds : checkFormat page ≡ Passed → checkKind kind expected page ≡ Passed → checkIdentity reference uuid kind parent blocks page ≡ Passed → HeaderHolds reference uuid kind parent expected blocks page
+  unfolding checkFormat checkKind checkIdentity checksumFits isPageKind levelFits reservedZero isOfTree isReferred hasUuid
   header-holds fe ke ie =
       let f = all-hold (formatDemands page) fe in
       let k = all-hold (kindDemands kind expected page) ke in
@@ -125,8 +127,8 @@ module _ (reference : TreeRef) (uuid : List ℕ) (kind : TreeKind) (parent : ℕ
       kinds (inl e) = inl (eqb-true (pageKind page) 1 e)
       kinds (inr e) = inr (eqb-true (pageKind page) 2 e)
 
-  format-passes : HeaderHolds reference uuid kind parent expected blocks page → formatCheck page ≡ Passed
-  unfolding formatCheck checksumFits
+  format-passes : HeaderHolds reference uuid kind parent expected blocks page → checkFormat page ≡ Passed
+  unfolding checkFormat checksumFits
   format-passes h =
       all-pass (formatDemands page) (
         eq-eqb (crc32cWithZero page 64 68) (u32At page 64) (h .checksum),
@@ -136,8 +138,8 @@ module _ (reference : TreeRef) (uuid : List ℕ) (kind : TreeKind) (parent : ℕ
         ),
       )
 
-  kind-passes : HeaderHolds reference uuid kind parent expected blocks page → kindCheck kind expected page ≡ Passed
-  unfolding kindCheck isPageKind isTreeKind levelFits reservedZero isOfTree
+  kind-passes : HeaderHolds reference uuid kind parent expected blocks page → checkKind kind expected page ≡ Passed
+  unfolding checkKind isPageKind isTreeKind levelFits reservedZero isOfTree
   kind-passes h =
       all-pass (kindDemands kind expected page) (
         one (h .kind-is),
@@ -168,8 +170,8 @@ module _ (reference : TreeRef) (uuid : List ℕ) (kind : TreeKind) (parent : ℕ
       numbered TreeKind.Cleanup e = rw e
       numbered TreeKind.Workspace e = rw e
 
-  identity-passes : HeaderHolds reference uuid kind parent expected blocks page → identityCheck reference uuid kind parent blocks page ≡ Passed
-  unfolding identityCheck isReferred hasUuid
+  identity-passes : HeaderHolds reference uuid kind parent expected blocks page → checkIdentity reference uuid kind parent blocks page ≡ Passed
+  unfolding checkIdentity isReferred hasUuid
   identity-passes h =
       all-pass (identityDemands reference uuid kind parent blocks page) (
         and-both (eqb (selfBlock page) (reference .block)) (eqb (generation page) (reference .generation) && leb (generation page) parent)
@@ -184,24 +186,24 @@ module _ (reference : TreeRef) (uuid : List ℕ) (kind : TreeKind) (parent : ℕ
         ),
       )
 
-  content-holds : contentCheck kind blocks page ≡ Passed → ContentHolds kind blocks page
-  unfolding contentCheck totalFits paddingZero enoughChildren
+  content-holds : checkContent kind blocks page ≡ Passed → ContentHolds kind blocks page
+  unfolding checkContent totalFits paddingZero enoughChildren
   content-holds e =
       let c = all-hold (contentDemands kind blocks page) e in
       record {
         records = passed-is (numberCheck (walked kind blocks page)) (c .0);
-        leaf-total = λ p. eqb-true (total page) (valueOf (walked kind blocks page)) (asked (pageKind page) 1 (eqb (total page) (valueOf (walked kind blocks page))) (c .1 .0) p);
+        leaf-total = λ p. eqb-true (total page) (numberOf (walked kind blocks page)) (asked (pageKind page) 1 (eqb (total page) (numberOf (walked kind blocks page))) (c .1 .0) p);
         padding = c .1 .1 .0;
         children = λ p. leb-true 2 (count page) (asked (pageKind page) 2 (leb 2 (count page)) (c .1 .1 .1 .0) p);
       }
 
-  content-passes : ContentHolds kind blocks page → contentCheck kind blocks page ≡ Passed
-  unfolding contentCheck totalFits paddingZero enoughChildren
+  content-passes : ContentHolds kind blocks page → checkContent kind blocks page ≡ Passed
+  unfolding checkContent totalFits paddingZero enoughChildren
   content-passes h =
       all-pass (contentDemands kind blocks page) (
         passed-test (numberCheck (walked kind blocks page)) (h .records),
         (
-          unasked (pageKind page) 1 (eqb (total page) (valueOf (walked kind blocks page))) (λ p. eq-eqb (total page) (valueOf (walked kind blocks page)) (h .leaf-total p)),
+          unasked (pageKind page) 1 (eqb (total page) (numberOf (walked kind blocks page))) (λ p. eq-eqb (total page) (numberOf (walked kind blocks page)) (h .leaf-total p)),
           (
             h .padding,
             (unasked (pageKind page) 2 (leb 2 (count page)) (λ p. le-leb 2 (count page) (h .children p)), tt),
@@ -209,34 +211,53 @@ module _ (reference : TreeRef) (uuid : List ℕ) (kind : TreeKind) (parent : ℕ
         ),
       )
 
-  pub page-holds : pageCheck reference uuid kind parent expected blocks page ≡ Passed → PageHolds reference uuid kind parent expected blocks page
-  unfolding pageCheck validatePageHeader
+  pub page-holds : checkPage reference uuid kind parent expected blocks page ≡ Passed → PageHolds reference uuid kind parent expected blocks page
+  unfolding checkPage validatePageHeader
   page-holds e =
       let h = all-hold (pageDemands reference uuid kind parent expected blocks page) e in
       let g = all-hold (headerDemands reference uuid kind parent expected blocks page) (passed-is (validatePageHeader reference uuid kind parent expected blocks page) (h .0)) in
       record {
-        caller = caller-holds (passed-is (callerCheck reference uuid kind parent expected blocks page) (g .0));
-        header = header-holds (passed-is (formatCheck page) (g .1 .0)) (passed-is (kindCheck kind expected page) (g .1 .1 .0)) (passed-is (identityCheck reference uuid kind parent blocks page) (g .1 .1 .1 .0));
-        content = content-holds (passed-is (contentCheck kind blocks page) (h .1 .0));
+        caller = caller-holds (passed-is (checkCaller reference uuid kind parent expected blocks page) (g .0));
+        header = header-holds (passed-is (checkFormat page) (g .1 .0)) (passed-is (checkKind kind expected page) (g .1 .1 .0)) (passed-is (checkIdentity reference uuid kind parent blocks page) (g .1 .1 .1 .0));
+        content = content-holds (passed-is (checkContent kind blocks page) (h .1 .0));
       }
 
-  pub page-passes : PageHolds reference uuid kind parent expected blocks page → pageCheck reference uuid kind parent expected blocks page ≡ Passed
-  unfolding pageCheck validatePageHeader
+  pub page-passes : PageHolds reference uuid kind parent expected blocks page → checkPage reference uuid kind parent expected blocks page ≡ Passed
+  unfolding checkPage validatePageHeader
   page-passes h =
       all-pass (pageDemands reference uuid kind parent expected blocks page) (
         passed-test (validatePageHeader reference uuid kind parent expected blocks page)
             (all-pass (headerDemands reference uuid kind parent expected blocks page) (
-              passed-test (callerCheck reference uuid kind parent expected blocks page) (caller-passes (h .caller)),
+              passed-test (checkCaller reference uuid kind parent expected blocks page) (caller-passes (h .caller)),
               (
-                passed-test (formatCheck page) (format-passes (h .header)),
+                passed-test (checkFormat page) (format-passes (h .header)),
                 (
-                  passed-test (kindCheck kind expected page) (kind-passes (h .header)),
-                  (passed-test (identityCheck reference uuid kind parent blocks page) (identity-passes (h .header)), tt),
+                  passed-test (checkKind kind expected page) (kind-passes (h .header)),
+                  (passed-test (checkIdentity reference uuid kind parent blocks page) (identity-passes (h .header)), tt),
                 ),
               ),
             )),
-        (passed-test (contentCheck kind blocks page) (content-passes (h .content)), tt),
+        (passed-test (checkContent kind blocks page) (content-passes (h .content)), tt),
       )
 
-pub page-accepted : PageAccepted
-page-accepted reference uuid kind parent expected blocks page = (page-holds reference uuid kind parent expected blocks page, page-passes reference uuid kind parent expected blocks page)
+-- class 0 is the answer of a page whose checks all pass, and of no other
+module _ (reference : TreeRef) (uuid : List ℕ) (kind : TreeKind) (parent : ℕ) (expected : Expected) (blocks : ℕ) (page : List ℕ) where
+  answered : decodePage reference uuid kind parent expected blocks page ≡ by (checkPage reference uuid kind parent expected blocks page) refusedPage (acceptedPage page)
+  unfolding decodePage checkPage
+  answered = outcome-by (pageDemands reference uuid kind parent expected blocks page) refusedPage (acceptedPage page)
+
+  class-passed : decodePage reference uuid kind parent expected blocks page .class ≡ 0 → checkPage reference uuid kind parent expected blocks page ≡ Passed
+  class-passed e = go (checkPage reference uuid kind parent expected blocks page) (ap (λ (p : Page). p .class) (sym answered) ∙ e)
+    where
+      go : (c : Check) → by c refusedPage (acceptedPage page) .class ≡ 0 → c ≡ Passed
+      go Passed q = refl
+      go (Refused x) q = absurd (class-some x q)
+
+  passed-class : checkPage reference uuid kind parent expected blocks page ≡ Passed → decodePage reference uuid kind parent expected blocks page .class ≡ 0
+  passed-class e = ap (λ (p : Page). p .class) (answered ∙ ap (λ (c : Check). by c refusedPage (acceptedPage page)) e)
+
+pub page-exactly : PageExactly
+page-exactly reference uuid kind parent expected blocks page = (
+  λ e. page-holds reference uuid kind parent expected blocks page (class-passed reference uuid kind parent expected blocks page e),
+  λ h. passed-class reference uuid kind parent expected blocks page (page-passes reference uuid kind parent expected blocks page h),
+)

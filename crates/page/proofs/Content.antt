@@ -4,18 +4,18 @@ use mathlib.Core.Bool.{Bool, true, false, not}
 use mathlib.Core.List.{List}
 use Prim.Native.Nat.{ℕ}
 use Rattle.error.specs.declared.Number.{Number}
-use Rattle.error.specs.Answer.{valueOf}
+use Rattle.error.specs.Answer.{numberOf}
 use Rattle.error.proofs.Tests.{yes-of, no-of}
 use Rattle.volume.specs.declared.TreeKind.{TreeKind}
 use Rattle.page.specs.Page.{walked, totalFits}
 
 -- the code's test of the total that the walk gave, as the definition's
 module _ (kind : TreeKind) (blocks : ℕ) (page : List ℕ) (t : Bool) (r : Number) (n : ℕ) (is : t ≡ totalFits page n) (given : r ≡ Number.Value n) (found : r ≡ walked kind blocks page) where
-  total-is : t ≡ totalFits page (valueOf (walked kind blocks page))
-  total-is = is ∙ ap (totalFits page) (ap valueOf (sym given ∙ found))
+  total-is : t ≡ totalFits page (numberOf (walked kind blocks page))
+  total-is = is ∙ ap (totalFits page) (ap numberOf (sym given ∙ found))
 
-  pub total-no : not t ≡ true → totalFits page (valueOf (walked kind blocks page)) ≡ false
+  pub total-no : not t ≡ true → totalFits page (numberOf (walked kind blocks page)) ≡ false
   total-no f = no-of f total-is
 
-  pub total-yes : not t ≡ false → totalFits page (valueOf (walked kind blocks page)) ≡ true
+  pub total-yes : not t ≡ false → totalFits page (numberOf (walked kind blocks page)) ≡ true
   total-yes f = yes-of f total-is

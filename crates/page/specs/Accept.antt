@@ -1,4 +1,4 @@
--- A page is accepted exactly when each of these holds; no order is in it.
+-- A page (01, section 4) is accepted exactly when each of these holds; no order is in it.
 use Prim.Native.Nat.{ℕ, _+_, _≤_}
 use mathlib.Core.Path.{_≡_}
 use mathlib.Core.Logic.{_↔_, _⊎_}
@@ -7,7 +7,7 @@ use mathlib.Core.List.{List}
 use lib.ListN.{length, drop}
 use Rattle.error.specs.declared.Validation.the-variants.{Input}
 use Rattle.error.specs.declared.Check.the-variants.{Passed}
-use Rattle.error.specs.Answer.{numberCheck, valueOf}
+use Rattle.error.specs.Answer.{numberCheck, numberOf}
 use Rattle.octets.specs.Bytes.{byteAt, part, allZero}
 use Rattle.octets.specs.Number.{u16At, u32At}
 use Rattle.crc.specs.Crc.{crc32cWithZero}
@@ -16,7 +16,7 @@ use Rattle.volume.specs.declared.TreeKind.{TreeKind}
 use Rattle.volume.specs.References.{treeKindValue, validateBlocks, validatePageRef, validateUuid}
 use Rattle.page.specs.declared.Expected.{Expected}
 use Rattle.page.specs.Header.{magic, pageKind, treeKind, level, selfBlock, generation, count, payloadLength, total, isLevel, isExpected, totalAllowed}
-use Rattle.page.specs.Page.{walked, pageCheck}
+use Rattle.page.specs.Page.{walked, decodePage}
 
 -- the caller's part
 pub record CallerHolds (reference : TreeRef) (uuid : List ℕ) (kind : TreeKind) (parent : ℕ) (expected : Expected) (blocks : ℕ) (page : List ℕ) : Type 0 where
@@ -53,7 +53,7 @@ pub record HeaderHolds (reference : TreeRef) (uuid : List ℕ) (kind : TreeKind)
 -- the records are accepted (the crate walk says plainly when), a leaf's total is theirs, zeros follow, and an internal page has two children
 pub record ContentHolds (kind : TreeKind) (blocks : ℕ) (page : List ℕ) : Type 0 where
   pub records : numberCheck (walked kind blocks page) ≡ Passed
-  pub leaf-total : pageKind page ≡ 1 → total page ≡ valueOf (walked kind blocks page)
+  pub leaf-total : pageKind page ≡ 1 → total page ≡ numberOf (walked kind blocks page)
   pub padding : allZero (drop (80 + payloadLength page) page) ≡ true
   pub children : pageKind page ≡ 2 → 2 ≤ count page
 
@@ -62,7 +62,8 @@ pub record PageHolds (reference : TreeRef) (uuid : List ℕ) (kind : TreeKind) (
   pub header : HeaderHolds reference uuid kind parent expected blocks page
   pub content : ContentHolds kind blocks page
 
-abbrev pub PageAccepted : Type 0
-PageAccepted =
+-- `decode_page` answers class 0 exactly when these hold
+abbrev pub PageExactly : Type 0
+PageExactly =
     (reference : TreeRef) (uuid : List ℕ) (kind : TreeKind) (parent : ℕ) (expected : Expected) (blocks : ℕ) (page : List ℕ)
-    → (pageCheck reference uuid kind parent expected blocks page ≡ Passed) ↔ PageHolds reference uuid kind parent expected blocks page
+    → (decodePage reference uuid kind parent expected blocks page .class ≡ 0) ↔ PageHolds reference uuid kind parent expected blocks page

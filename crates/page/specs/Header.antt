@@ -1,6 +1,6 @@
 -- The header of a page (01, section 4): its fields, and the checks of `validate_page_header` in their order.
 use Prim.Native.Nat.{ℕ}
-use mathlib.Core.Bool.{Bool, true, not, _&&_, _||_}
+use mathlib.Core.Bool.{Bool, true, not, _&&_, _||_, cond}
 use mathlib.Core.List.{List, [], _∷_}
 use lib.Dec.{leb, eqb}
 use lib.ListN.{length}
@@ -14,7 +14,7 @@ use Rattle.octets.specs.Number.{u16At, u32At, u64At}
 use Rattle.crc.specs.Crc.{crc32cWithZero}
 use Rattle.volume.specs.declared.TreeRef.{TreeRef}
 use Rattle.volume.specs.declared.TreeKind.{TreeKind}
-use Rattle.volume.specs.References.{treeKindValue, validateBlocks, validatePageRef, validateUuid}
+use Rattle.volume.specs.References.{treeKindValue, isTreeKindValue, validateBlocks, validatePageRef, validateUuid}
 use Rattle.page.specs.declared.Expected.{Expected}
 
 -- ---- the fields
@@ -51,6 +51,10 @@ total page = u64At page 56
 
 -- ---- the caller's part
 
+-- 01, "The program readback": 255 is a level that isn't given
+unfoldable pub expectedOf : ℕ → Expected
+expectedOf n = cond (eqb n 255) Expected.Any (Expected.Exactly n)
+
 -- a level that is expected is at most 7
 unfoldable pub isLevel : Expected → Bool
 isLevel Expected.Any = true
@@ -66,8 +70,8 @@ callerDemands reference uuid kind parent expected blocks page =
     ∷ isLevel expected otherwise InvalidInput reason.invalidExpectedPageLevel
     ∷ []
 
-unfoldable pub callerCheck : TreeRef → List ℕ → TreeKind → ℕ → Expected → ℕ → List ℕ → Check
-callerCheck reference uuid kind parent expected blocks page = demands (callerDemands reference uuid kind parent expected blocks page)
+unfoldable pub checkCaller : TreeRef → List ℕ → TreeKind → ℕ → Expected → ℕ → List ℕ → Check
+checkCaller reference uuid kind parent expected blocks page = demands (callerDemands reference uuid kind parent expected blocks page)
 
 -- ---- the stored part
 
@@ -84,14 +88,14 @@ formatDemands page =
     ∷ eqb (u16At page 10) 0 otherwise UnsupportedFormat
     ∷ []
 
-unfoldable pub formatCheck : List ℕ → Check
-formatCheck page = demands (formatDemands page)
+unfoldable pub checkFormat : List ℕ → Check
+checkFormat page = demands (formatDemands page)
 
 unfoldable pub isPageKind : List ℕ → Bool
 isPageKind page = eqb (pageKind page) 1 || eqb (pageKind page) 2
 
 unfoldable pub isTreeKind : List ℕ → Bool
-isTreeKind page = leb 1 (treeKind page) && leb (treeKind page) 4
+isTreeKind page = isTreeKindValue (treeKind page)
 
 -- a leaf's level is 0, an internal page's 1..7
 unfoldable pub levelFits : List ℕ → Bool
@@ -120,8 +124,8 @@ kindDemands kind expected page =
     ∷ reservedZero page otherwise Corrupt reason.pageReservedBytes
     ∷ []
 
-unfoldable pub kindCheck : TreeKind → Expected → List ℕ → Check
-kindCheck kind expected page = demands (kindDemands kind expected page)
+unfoldable pub checkKind : TreeKind → Expected → List ℕ → Check
+checkKind kind expected page = demands (kindDemands kind expected page)
 
 -- the page is the one that the reference names, and not newer than its parent
 unfoldable pub isReferred : TreeRef → ℕ → List ℕ → Bool
@@ -148,17 +152,17 @@ identityDemands reference uuid kind parent blocks page =
     ∷ totalAllowed kind page otherwise Corrupt reason.nonCatalogDataBlockTotal
     ∷ []
 
-unfoldable pub identityCheck : TreeRef → List ℕ → TreeKind → ℕ → ℕ → List ℕ → Check
-identityCheck reference uuid kind parent blocks page = demands (identityDemands reference uuid kind parent blocks page)
+unfoldable pub checkIdentity : TreeRef → List ℕ → TreeKind → ℕ → ℕ → List ℕ → Check
+checkIdentity reference uuid kind parent blocks page = demands (identityDemands reference uuid kind parent blocks page)
 
 -- ---- the header
 
 abbrev pub headerDemands : TreeRef → List ℕ → TreeKind → ℕ → Expected → ℕ → List ℕ → List Demand
 headerDemands reference uuid kind parent expected blocks page =
-    passing (callerCheck reference uuid kind parent expected blocks page)
-    ∷ passing (formatCheck page)
-    ∷ passing (kindCheck kind expected page)
-    ∷ passing (identityCheck reference uuid kind parent blocks page)
+    passing (checkCaller reference uuid kind parent expected blocks page)
+    ∷ passing (checkFormat page)
+    ∷ passing (checkKind kind expected page)
+    ∷ passing (checkIdentity reference uuid kind parent blocks page)
     ∷ []
 
 unfoldable pub validatePageHeader : TreeRef → List ℕ → TreeKind → ℕ → Expected → ℕ → List ℕ → Check

@@ -9,7 +9,7 @@ use Rattle.error.specs.declared.Error.the-variants.{Corrupt}
 use Rattle.error.specs.declared.Validation.the-variants.{Disk}
 use Rattle.error.specs.declared.Check.{Check}
 use Rattle.error.specs.declared.Number.{Number}
-use Rattle.error.specs.Answer.{classOf, reasonOf, numberCheck, valueOf}
+use Rattle.error.specs.Answer.{classOf, reasonOf, numberCheck, numberOf}
 use Rattle.error.specs.Demand.{Demand, _otherwise_, passing, outcome, demands}
 use Rattle.error.specs.Reason as reason
 use Rattle.octets.specs.Bytes.{allZero}
@@ -51,23 +51,23 @@ enoughChildren page = not (eqb (pageKind page) 2) || leb 2 (count page)
 abbrev pub contentDemands : TreeKind → ℕ → List ℕ → List Demand
 contentDemands kind blocks page =
     passing (numberCheck (walked kind blocks page))
-    ∷ totalFits page (valueOf (walked kind blocks page)) otherwise Corrupt reason.leafDataBlockTotal
+    ∷ totalFits page (numberOf (walked kind blocks page)) otherwise Corrupt reason.leafDataBlockTotal
     ∷ paddingZero page otherwise Corrupt reason.pagePadding
     ∷ enoughChildren page otherwise Corrupt reason.internalPageHasTooFewChildren
     ∷ []
 
-unfoldable pub contentCheck : TreeKind → ℕ → List ℕ → Check
-contentCheck kind blocks page = demands (contentDemands kind blocks page)
+unfoldable pub checkContent : TreeKind → ℕ → List ℕ → Check
+checkContent kind blocks page = demands (contentDemands kind blocks page)
 
 -- every check of `decode_page`, in its order
 abbrev pub pageDemands : TreeRef → List ℕ → TreeKind → ℕ → Expected → ℕ → List ℕ → List Demand
 pageDemands reference uuid kind parent expected blocks page =
     passing (validatePageHeader reference uuid kind parent expected blocks page)
-    ∷ passing (contentCheck kind blocks page)
+    ∷ passing (checkContent kind blocks page)
     ∷ []
 
-unfoldable pub pageCheck : TreeRef → List ℕ → TreeKind → ℕ → Expected → ℕ → List ℕ → Check
-pageCheck reference uuid kind parent expected blocks page = demands (pageDemands reference uuid kind parent expected blocks page)
+unfoldable pub checkPage : TreeRef → List ℕ → TreeKind → ℕ → Expected → ℕ → List ℕ → Check
+checkPage reference uuid kind parent expected blocks page = demands (pageDemands reference uuid kind parent expected blocks page)
 
 -- ---- the answer in numbers
 

@@ -2,8 +2,6 @@
 use Prim.Native.Nat.{ℕ, _+_}
 use mathlib.Core.Bool.{Bool, _&&_}
 use mathlib.Core.List.{List, [], _∷_}
-use lib.Dec.{leb}
-use lib.ListN.{length}
 use Rattle.error.specs.declared.Error.the-variants.{Corrupt}
 use Rattle.error.specs.Demand.{Demand, _otherwise_, outcome}
 use Rattle.error.specs.Reason as reason
@@ -24,7 +22,7 @@ isAskedFor reference uuid kind parent expected page =
 -- the Rust's order: the level's byte, the generation, identity, the payload; the other reads lie within these
 abbrev pub verifiedDemands : TreeRef → List ℕ → TreeKind → ℕ → Expected → List ℕ → List Demand
 verifiedDemands reference uuid kind parent expected page =
-    leb 15 (length page) otherwise Corrupt reason.pageLength
+    within page 14 1 otherwise Corrupt reason.pageLength
     ∷ within page 24 8 otherwise Corrupt reason.pageGeneration
     ∷ isAskedFor reference uuid kind parent expected page otherwise Corrupt reason.pageIdentityOrGeneration
     ∷ within page 80 (payloadLength page) otherwise Corrupt reason.pagePayloadLength

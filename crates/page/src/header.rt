@@ -1,6 +1,6 @@
 // The checks of a page's header, in the order of the Rust's `validate_page_header`.
 ghost use mathlib.Core.Path.{_≡_};
-ghost use Rattle.page.specs.Header.{isLevel, callerCheck, checksumFits, formatCheck, isPageKind, isTreeKind, levelFits, isExpected, reservedZero, isOfTree, kindCheck, isReferred, hasUuid, totalAllowed, identityCheck, validatePageHeader};
+ghost use Rattle.page.specs.Header.{isLevel, checkCaller, checksumFits, checkFormat, isPageKind, isTreeKind, levelFits, isExpected, reservedZero, isOfTree, checkKind, isReferred, hasUuid, totalAllowed, checkIdentity, validatePageHeader};
 use crate::Expected;
 use crate::view::PageView;
 use error::Check;
@@ -29,7 +29,7 @@ fn check_caller(
     blocks: u64,
     page: &[u8],
 ) -> Check
-    ensures { λ r. ⌜ r ≡ callerCheck reference (now (uuid .entry)) kind parent expected blocks (now (page .entry)) ⌝ }
+    ensures { λ r. ⌜ r ≡ checkCaller reference (now (uuid .entry)) kind parent expected blocks (now (page .entry)) ⌝ }
 {
     if page.len() != PageView::BYTES {
         return Check::Refused(Error::Corrupt(reason::PAGE_LENGTH));
@@ -61,17 +61,18 @@ fn check_caller(
 fn checksum_fits(page: &[u8]) -> bool
     ensures { λ r. ⌜ r ≡ checksumFits (now (page .entry)) ⌝ }
 {
-    crc::crc32c_with_zero(page, 64, 68) == octets::u32_at(page, PageView::CHECKSUM_OFFSET)
+    crc::crc32c_with_zero(page, PageView::CHECKSUM_OFFSET, PageView::MORE_ZEROS_OFFSET)
+        == octets::u32_at(page, PageView::CHECKSUM_OFFSET)
 }
 
 // The checksum, the magic, and what would make it another format.
 fn check_format(page: &[u8]) -> Check
-    ensures { λ r. ⌜ r ≡ formatCheck (now (page .entry)) ⌝ }
+    ensures { λ r. ⌜ r ≡ checkFormat (now (page .entry)) ⌝ }
 {
     if !checksum_fits(page) {
         return Check::Refused(Error::Corrupt(reason::PAGE_CHECKSUM));
     }
-    if !octets::starts_with(page, b"CFSXPAGE") {
+    if !octets::starts_with(page, &PageView::MAGIC) {
         return Check::Refused(Error::Corrupt(reason::PAGE_MAGIC));
     }
     if octets::u16_at(page, PageView::REVISION_OFFSET) != PageView::REVISION {
@@ -118,9 +119,13 @@ pub fn is_expected(expected: Expected, page: &[u8]) -> bool
 fn reserved_zero(page: &[u8]) -> bool
     ensures { λ r. ⌜ r ≡ reservedZero (now (page .entry)) ⌝ }
 {
-    (octets::byte_at(page, 15) == 0)
-        & (octets::all_zero(lookup::span(page, 36, 40))
-            & octets::all_zero(lookup::span(page, 68, 80)))
+    (octets::byte_at(page, PageView::ZERO_OFFSET) == 0)
+        & (octets::all_zero(octets::span(page, PageView::ZEROS_OFFSET, PageView::UUID_OFFSET))
+            & octets::all_zero(octets::span(
+                page,
+                PageView::MORE_ZEROS_OFFSET,
+                PageView::PAYLOAD_OFFSET,
+            )))
 }
 
 // Whether the page is of the tree that is asked for.
@@ -132,7 +137,7 @@ pub fn is_of_tree(kind: TreeKind, page: &[u8]) -> bool
 
 // What kind of page it is.
 fn check_kind(kind: TreeKind, expected: Expected, page: &[u8]) -> Check
-    ensures { λ r. ⌜ r ≡ kindCheck kind expected (now (page .entry)) ⌝ }
+    ensures { λ r. ⌜ r ≡ checkKind kind expected (now (page .entry)) ⌝ }
 {
     if !is_page_kind(page) {
         return Check::Refused(Error::Corrupt(reason::PAGE_KIND));
@@ -168,7 +173,10 @@ pub fn is_referred(reference: TreeRef, parent: u64, page: &[u8]) -> bool
 pub fn has_uuid(uuid: &[u8; 16], page: &[u8]) -> bool
     ensures { λ r. ⌜ r ≡ hasUuid (now (uuid .entry)) (now (page .entry)) ⌝ }
 {
-    octets::same_bytes(lookup::span(page, 40, 56), uuid)
+    octets::same_bytes(
+        octets::span(page, PageView::UUID_OFFSET, PageView::TOTAL_OFFSET),
+        uuid,
+    )
 }
 
 fn total_allowed(kind: TreeKind, page: &[u8]) -> bool
@@ -191,7 +199,7 @@ fn check_identity(
     blocks: u64,
     page: &[u8],
 ) -> Check
-    ensures { λ r. ⌜ r ≡ identityCheck reference (now (uuid .entry)) kind parent blocks (now (page .entry)) ⌝ }
+    ensures { λ r. ⌜ r ≡ checkIdentity reference (now (uuid .entry)) kind parent blocks (now (page .entry)) ⌝ }
 {
     if !is_referred(reference, parent, page) {
         return Check::Refused(Error::Corrupt(reason::PAGE_IDENTITY_OR_GENERATION));
@@ -199,7 +207,7 @@ fn check_identity(
     if !has_uuid(uuid, page) {
         return Check::Refused(Error::Corrupt(reason::PAGE_UUID));
     }
-    if 4016 < octets::u16_at(page, PageView::PAYLOAD_LENGTH_OFFSET) {
+    if PageView::PAYLOAD_BYTES < octets::u16_at(page, PageView::PAYLOAD_LENGTH_OFFSET) as usize {
         return Check::Refused(Error::Corrupt(reason::PAGE_PAYLOAD_LENGTH));
     }
     if blocks < octets::u64_at(page, PageView::TOTAL_OFFSET) {

@@ -1,12 +1,13 @@
-// Pages: the header, the records, the answer in numbers, and views of the payload. Document 01, section 4.
+// Pages: the header, the records, the answer in numbers, and the view that refers to the payload. Document 01, section 4.
 pub mod header;
 pub mod view;
 
 ghost use mathlib.Core.Path.{_≡_};
 ghost use Rattle.octets.specs.Number.{within};
-ghost use Rattle.page.specs.Header.{payloadLength};
-ghost use Rattle.page.specs.Page.{walked, totalFits, paddingZero, enoughChildren, contentCheck, pageCheck, refusedPage, acceptedPage, decodePage};
+ghost use Rattle.page.specs.Header.{expectedOf, payloadLength};
+ghost use Rattle.page.specs.Page.{walked, totalFits, paddingZero, enoughChildren, checkContent, checkPage, refusedPage, acceptedPage, decodePage};
 ghost use Rattle.page.specs.Unchecked.{isAskedFor, verifiedPageView, draftNumbers, draftPageView};
+ghost use Rattle.page.specs.View.{Views};
 use error::Check;
 use error::Error;
 use error::Number;
@@ -21,6 +22,16 @@ use walk::RecordValidation;
 pub enum Expected {
     Any,
     Exactly(u8),
+}
+
+// The level that a number from a program or a C caller stands for: 255 is a level that isn't given.
+pub fn expected_of(level: u8) -> Expected
+    ensures { λ r. ⌜ r ≡ expectedOf level ⌝ }
+{
+    if level == 255 {
+        return Expected::Any;
+    }
+    Expected::Exactly(level)
 }
 
 // What reading a page answers, in numbers: class and reason, the level, the total, the count, and where its payload starts and ends.
@@ -76,7 +87,7 @@ fn walk_records(kind: TreeKind, blocks: u64, page: &[u8]) -> Number
         mode: Validation::Disk,
     };
     walk::validate_records(
-        lookup::tail(page, PageView::PAYLOAD_OFFSET),
+        octets::tail(page, PageView::PAYLOAD_OFFSET),
         payload,
         count,
         context,
@@ -88,12 +99,12 @@ fn padding_zero(page: &[u8]) -> bool
 {
     let end = PageView::PAYLOAD_OFFSET
         + octets::u16_at(page, PageView::PAYLOAD_LENGTH_OFFSET) as usize;
-    octets::all_zero(lookup::tail(page, end))
+    octets::all_zero(octets::tail(page, end))
 }
 
 // The records, the leaf's total, the padding, and two children in an internal page.
 fn check_content(kind: TreeKind, blocks: u64, page: &[u8]) -> Check
-    ensures { λ r. ⌜ r ≡ contentCheck kind blocks (now (page .entry)) ⌝ }
+    ensures { λ r. ⌜ r ≡ checkContent kind blocks (now (page .entry)) ⌝ }
 {
     match walk_records(kind, blocks, page) {
         Number::Refused(e) => Check::Refused(e),
@@ -122,7 +133,7 @@ fn check_page(
     blocks: u64,
     page: &[u8],
 ) -> Check
-    ensures { λ r. ⌜ r ≡ pageCheck reference (now (uuid .entry)) kind parent expected blocks (now (page .entry)) ⌝ }
+    ensures { λ r. ⌜ r ≡ checkPage reference (now (uuid .entry)) kind parent expected blocks (now (page .entry)) ⌝ }
 {
     let first = header::validate_page_header(reference, uuid, kind, parent, expected, blocks, page);
     let Check::Passed = first else {
@@ -146,8 +157,8 @@ fn accepted_page(page: &[u8]) -> Page
     }
 }
 
-// Validate the page that the reference names; the answer is that of its view, in numbers.
-pub fn decode_page(
+// Validate the page that the reference names; the answer in numbers.
+pub fn page_answer(
     page: &[u8],
     reference: TreeRef,
     uuid: &[u8; 16],
@@ -187,8 +198,8 @@ fn holds_payload(page: &[u8]) -> bool
         <= page.len()
 }
 
-// The answer that `decode_page` gave for this page earlier, rechecking only its identity.
-pub fn verified_page_view(
+// The answer that the page got earlier, rechecking only its identity.
+pub fn verified_answer(
     page: &[u8],
     reference: TreeRef,
     uuid: &[u8; 16],
@@ -229,7 +240,7 @@ fn draft_numbers(page: &[u8]) -> Page
 }
 
 // A page that is still being built: nothing is checked but that its bytes are there.
-pub fn draft_page_view(page: &[u8]) -> Page
+pub fn draft_answer(page: &[u8]) -> Page
     ensures { λ r. ⌜ r ≡ draftPageView (now (page .entry)) ⌝ }
 {
     if page.len() < 34 {
@@ -242,4 +253,43 @@ pub fn draft_page_view(page: &[u8]) -> Page
         return refused_page(Error::Corrupt(reason::DRAFT_PAYLOAD_LENGTH));
     }
     draft_numbers(page)
+}
+
+// Validate the page that the reference names, and view its payload in place.
+pub fn decode_page<'a>(
+    page: &'a [u8],
+    reference: TreeRef,
+    uuid: &[u8; 16],
+    kind: TreeKind,
+    parent: u64,
+    expected: Expected,
+    blocks: u64,
+) -> PageView<'a>
+    ensures { λ r. ⌜ Views (page .entry) (decodePage reference (now (uuid .entry)) kind parent expected blocks (now (page .entry))) r ⌝ }
+{
+    let answer = page_answer(page, reference, uuid, kind, parent, expected, blocks);
+    view::view_of(page, answer)
+}
+
+// The view of a page that `decode_page` accepted earlier, rechecking only its identity.
+pub fn verified_page_view<'a>(
+    page: &'a [u8],
+    reference: TreeRef,
+    uuid: &[u8; 16],
+    kind: TreeKind,
+    parent: u64,
+    expected: Expected,
+) -> PageView<'a>
+    ensures { λ r. ⌜ Views (page .entry) (verifiedPageView reference (now (uuid .entry)) kind parent expected (now (page .entry))) r ⌝ }
+{
+    let answer = verified_answer(page, reference, uuid, kind, parent, expected);
+    view::view_of(page, answer)
+}
+
+// The view of a page that is still being built.
+pub fn draft_page_view<'a>(page: &'a [u8]) -> PageView<'a>
+    ensures { λ r. ⌜ Views (page .entry) (draftPageView (now (page .entry))) r ⌝ }
+{
+    let answer = draft_answer(page);
+    view::view_of(page, answer)
 }

@@ -1,10 +1,11 @@
 // A view of a page: what was read of its header, and the part of the caller's bytes that holds its records.
 ghost use mathlib.Core.Path.{_≡_};
-ghost use Prim.Native.Nat.{_+_, _*_, _<_, _≤_, _^_};
+ghost use Prim.Native.Nat.{_*_, _<_};
 ghost use lib.Dec.{eqb};
-ghost use lib.ListN.{length, getD};
-ghost use Rattle.lookup.specs.Floor.{scratchOf, stepOf};
-ghost use Rattle.page.specs.View.{Found, answerAt, viewOf, Stepped};
+ghost use lib.ListN.{length};
+ghost use Rattle.lookup.specs.Floor.{answerAt, scratchOf, stepOf};
+ghost use Rattle.page.specs.View.{Views, Found, Stepped};
+use crate::Page;
 
 pub struct PageView<'a> {
     pub class: u16,
@@ -37,6 +38,8 @@ impl<'a> PageView<'a> {
 
     pub const LEVEL_OFFSET: usize = 14;
 
+    pub const ZERO_OFFSET: usize = 15;
+
     pub const SELF_BLOCK_OFFSET: usize = 16;
 
     pub const GENERATION_OFFSET: usize = 24;
@@ -45,11 +48,15 @@ impl<'a> PageView<'a> {
 
     pub const PAYLOAD_LENGTH_OFFSET: usize = 34;
 
+    pub const ZEROS_OFFSET: usize = 36;
+
     pub const UUID_OFFSET: usize = 40;
 
     pub const TOTAL_OFFSET: usize = 56;
 
     pub const CHECKSUM_OFFSET: usize = 64;
+
+    pub const MORE_ZEROS_OFFSET: usize = 68;
 
     pub fn len(self) -> usize
         ensures { λ r. ⌜ r ≡ self .entry .count ⌝ }
@@ -80,36 +87,29 @@ pub struct FloorRecord<'a> {
 
 impl<'a> PageView<'a> {
     pub fn floor_record(self, key: &[u8], offsets: &mut [u16]) -> FloorRecord<'a>
-        ensures { λ r. ⌜ Found (now (self .entry .payload)) (answerAt (now (self .entry .payload)) (self .entry .count) (now (key .entry)) (length (now (offsets .entry)))) r × (now (offsets .exit) ≡ scratchOf (now (self .entry .payload)) (self .entry .count) (now (offsets .entry))) ⌝ }
+        ensures { λ r. ⌜ Found (self .entry .payload) (answerAt (now (self .entry .payload)) (self .entry .count) (now (key .entry)) (length (now (offsets .entry)))) r × (now (offsets .exit) ≡ scratchOf (now (self .entry .payload)) (self .entry .count) (now (offsets .entry))) ⌝ }
     {
         let a = lookup::floor_answer(self.payload, self.count, key, offsets);
         FloorRecord {
             found: a.found,
             index: a.index,
             remaining: a.remaining,
-            payload: lookup::tail(self.payload, a.from),
+            payload: octets::span(self.payload, a.from, a.end),
         }
     }
 }
 
-// A view is made of a page's numbers and the part of its bytes that holds its records.
-pub fn view_of<'a>(
-    class: u16,
-    reason: u16,
-    level: u8,
-    data_blocks: u64,
-    count: usize,
-    payload: &'a [u8],
-) -> PageView<'a>
-    ensures { λ r. ⌜ r ≡ viewOf class reason level «data_blocks» count (payload .entry) ⌝ }
+// The view of an answer: its numbers, and the part of the page that holds its records.
+pub fn view_of<'a>(page: &'a [u8], answer: Page) -> PageView<'a>
+    ensures { λ r. ⌜ Views (page .entry) answer r ⌝ }
 {
     PageView {
-        class,
-        reason,
-        level,
-        data_blocks,
-        count,
-        payload,
+        class: answer.class,
+        reason: answer.reason,
+        level: answer.level,
+        data_blocks: answer.data_blocks,
+        count: answer.count,
+        payload: octets::span(page, answer.start, answer.end),
     }
 }
 
@@ -141,14 +141,14 @@ pub struct Next<'a> {
 
 impl<'a> Records<'a> {
     pub fn next(self) -> Next<'a>
-        ensures { λ r. ⌜ Stepped (now (self .entry .payload)) (stepOf (now (self .entry .payload)) (self .entry .remaining)) r ⌝ }
+        ensures { λ r. ⌜ Stepped (self .entry .payload) (stepOf (now (self .entry .payload)) (self .entry .remaining)) r ⌝ }
     {
         let s = lookup::next_record(self.payload, self.remaining);
         Next {
             found: s.found,
-            key: lookup::span(self.payload, s.key_start, s.key_end),
-            value: lookup::span(self.payload, s.key_end, s.value_end),
-            payload: lookup::tail(self.payload, s.value_end),
+            key: octets::span(self.payload, s.key_start, s.key_end),
+            value: octets::span(self.payload, s.key_end, s.value_end),
+            payload: octets::tail(self.payload, s.value_end),
             remaining: s.remaining,
         }
     }

@@ -1,6 +1,5 @@
 // A call's numbers and strings, taken apart. What a call doesn't have is 0 or empty.
 use error::Validation;
-use volume::TreeKind;
 use volume::TreeRef;
 
 // The first numbers of a call.
@@ -73,15 +72,6 @@ pub fn mode(value: u64) -> Validation {
         Validation::Input
     } else {
         Validation::Disk
-    }
-}
-
-pub fn kind(value: u64) -> TreeKind {
-    match value {
-        1 => TreeKind::Catalog,
-        2 => TreeKind::Allocation,
-        3 => TreeKind::Cleanup,
-        _ => TreeKind::Workspace,
     }
 }
 

@@ -1,6 +1,5 @@
 // Calls 12 to 19: blocks, references, slots and groups of a volume.
 use crate::arguments::Numbers;
-use crate::arguments::kind;
 use crate::arguments::mode;
 use crate::arguments::reference;
 use crate::fields::Fields;
@@ -29,7 +28,12 @@ pub fn answer_reference(call: u8, n: Numbers) -> Fields {
     match call {
         16 => number(volume::allocation_group_count(n.a)),
         17 => check(volume::validate_tree_ref(reference(n.a, n.b), n.c, mode(n.d))),
-        18 => check(volume::validate_page_ref(reference(n.a, n.b), kind(n.c), n.d, mode(n.e))),
+        18 => check(volume::validate_page_ref(
+            reference(n.a, n.b),
+            volume::tree_kind_of(n.c),
+            n.d,
+            mode(n.e),
+        )),
         _ => check(volume::validate_root_slot(n.a, n.b, mode(n.c))),
     }
 }

@@ -1,7 +1,6 @@
 // Calls 36 to 40 and 42: pages, their records and lookups.
 use crate::arguments::Numbers;
 use crate::arguments::byte;
-use crate::arguments::kind;
 use crate::arguments::mode;
 use crate::arguments::reference;
 use crate::arguments::short;
@@ -11,17 +10,13 @@ use crate::fields::number;
 use crate::fields::six;
 use crate::output;
 use lookup::Answer;
-use page::Expected;
 use page::Page;
 use walk::RecordValidation;
 
 // 1, index, remaining and offset; where nothing is found each is 0.
 fn found(a: Answer) -> Fields {
-    if a.found {
-        four(1, a.index as u64, a.remaining as u64, a.from as u64)
-    } else {
-        four(0, 0, 0, 0)
-    }
+    let one = if a.found { 1 } else { 0 };
+    four(one, a.index as u64, a.remaining as u64, a.from as u64)
 }
 
 // The lookup over a scratch, and the scratch as it is left.
@@ -65,29 +60,13 @@ fn next_record(remaining: u64, payload: &[u8]) -> Fields {
         six(
             1,
             s.key_start as u64,
-            distance(s.key_start, s.key_end),
+            volume::saturating_sub(s.key_end as u64, s.key_start as u64),
             s.key_end as u64,
-            distance(s.key_end, s.value_end),
+            volume::saturating_sub(s.value_end as u64, s.key_end as u64),
             s.value_end as u64,
         )
     } else {
         six(0, 0, 0, 0, 0, 0)
-    }
-}
-
-fn distance(start: usize, end: usize) -> u64 {
-    if start <= end {
-        (end - start) as u64
-    } else {
-        0
-    }
-}
-
-fn expected(level: u64) -> Expected {
-    if level < 255 {
-        Expected::Exactly(byte(level))
-    } else {
-        Expected::Any
     }
 }
 
@@ -100,7 +79,7 @@ fn told_page(p: Page) -> Fields {
         p.data_blocks,
         p.count as u64,
         p.start as u64,
-        distance(p.start, p.end),
+        volume::saturating_sub(p.end as u64, p.start as u64),
     ];
     Fields { count: 7, values }
 }
@@ -113,38 +92,38 @@ fn told_draft(p: Page) -> Fields {
         p.level as u64,
         p.count as u64,
         p.start as u64,
-        distance(p.start, p.end),
+        volume::saturating_sub(p.end as u64, p.start as u64),
     )
 }
 
 fn decode_page(n: Numbers, uuid: &[u8], page: &[u8]) -> Fields {
     let id = octets::copy16(uuid);
-    told_page(page::decode_page(
+    told_page(page::page_answer(
         page,
         reference(n.a, n.b),
         &id,
-        kind(n.c),
+        volume::tree_kind_of(n.c),
         n.d,
-        expected(n.e),
+        page::expected_of(byte(n.e)),
         n.f,
     ))
 }
 
 fn verified_page_view(n: Numbers, uuid: &[u8], page: &[u8]) -> Fields {
     let id = octets::copy16(uuid);
-    told_page(page::verified_page_view(
+    told_page(page::verified_answer(
         page,
         reference(n.a, n.b),
         &id,
-        kind(n.c),
+        volume::tree_kind_of(n.c),
         n.d,
-        expected(n.e),
+        page::expected_of(byte(n.e)),
     ))
 }
 
 fn validate_records(n: Numbers, rest: &[u8]) -> Fields {
     let context = RecordValidation {
-        kind: kind(n.a),
+        kind: volume::tree_kind_of(n.a),
         page_kind: byte(n.b),
         page_generation: n.c,
         blocks: n.d,
@@ -158,7 +137,7 @@ pub fn answer(call: u8, n: Numbers, a: &[u8], b: &[u8]) -> Fields {
     match call {
         36 => decode_page(n, a, b),
         37 => verified_page_view(n, a, b),
-        38 => told_draft(page::draft_page_view(a)),
+        38 => told_draft(page::draft_answer(a)),
         40 => next_record(n.a, a),
         _ => validate_records(n, a),
     }

@@ -1,6 +1,5 @@
 // Calls 20 to 31: records and checksum groups.
 use crate::arguments::Numbers;
-use crate::arguments::kind;
 use crate::arguments::mode;
 use crate::arguments::word;
 use crate::fields::Fields;
@@ -62,9 +61,23 @@ pub fn answer_entry(call: u8, n: Numbers, a: &[u8], b: &[u8]) -> Fields {
 // Calls 27 to 29.
 pub fn answer_record(call: u8, n: Numbers, a: &[u8], b: &[u8]) -> Fields {
     match call {
-        27 => number(record::validate_leaf_record(kind(n.a), a, b, n.b, n.c, mode(n.d))),
-        28 => child(record::validate_internal_record(kind(n.a), a, b, n.b, n.c, mode(n.d))),
-        _ => number(record::leaf_record_blocks(kind(n.a), a, b, n.b, n.c)),
+        27 => number(record::validate_leaf_record(
+            volume::tree_kind_of(n.a),
+            a,
+            b,
+            n.b,
+            n.c,
+            mode(n.d),
+        )),
+        28 => child(record::validate_internal_record(
+            volume::tree_kind_of(n.a),
+            a,
+            b,
+            n.b,
+            n.c,
+            mode(n.d),
+        )),
+        _ => number(record::leaf_record_blocks(volume::tree_kind_of(n.a), a, b, n.b, n.c)),
     }
 }
 

@@ -1,109 +1,12 @@
 // Reads roots and pages from standard input and says of each what the reader answers. Document 01, "The program readback".
 use libc::STDIN_FILENO;
 use libc::STDOUT_FILENO;
-use page::Expected;
-use root::Root;
-use volume::TreeKind;
-use volume::TreeRef;
 
 // What came of one body: the place behind its line, or that the program stops there.
 enum Turn {
     Answered(usize),
     Cut,
     End,
-}
-
-// The level that the caller expects; 255 is none.
-fn expected(level: u8) -> Expected {
-    if level < 255 {
-        Expected::Exactly(level)
-    } else {
-        Expected::Any
-    }
-}
-
-fn kind_of(value: u8) -> TreeKind {
-    match value {
-        1 => TreeKind::Catalog,
-        2 => TreeKind::Allocation,
-        3 => TreeKind::Cleanup,
-        _ => TreeKind::Workspace,
-    }
-}
-
-fn is_kind(value: u8) -> bool {
-    (1 <= value) & (value <= 4)
-}
-
-// The label's bytes; none is an empty label.
-fn root_line(number: u64, root: Root, class: u16, reason: u16, out: &mut [u8], at: usize) -> usize {
-    let label = root.label;
-    let bytes = label.bytes;
-    let text: &[u8] = &bytes;
-    report::root_line(
-        out,
-        at,
-        number,
-        class,
-        reason,
-        root.generation,
-        front(text, label.len as usize),
-    )
-}
-
-fn front(text: &[u8], n: usize) -> &[u8] {
-    lookup::span(text, 0, n)
-}
-
-// Slot, blocks and the block.
-fn root_body(number: u64, body: &[u8], out: &mut [u8], at: usize) -> usize {
-    let block = lookup::tail(body, 16);
-    let decoded = Root::decode(block, octets::u64_at(body, 0), octets::u64_at(body, 8));
-    let answer = decoded.answer;
-    let root = decoded.root;
-    root_line(
-        number,
-        root,
-        error::check_class(answer),
-        error::check_reason(answer),
-        out,
-        at,
-    )
-}
-
-fn reference(body: &[u8]) -> TreeRef {
-    TreeRef {
-        block: octets::u64_at(body, 0),
-        generation: octets::u64_at(body, 8),
-    }
-}
-
-// Block, generation, UUID, tree kind, parent generation, expected level, blocks and the page.
-fn page_body(number: u64, body: &[u8], out: &mut [u8], at: usize) -> usize {
-    let uuid = octets::copy16(lookup::span(body, 16, 32));
-    let kind = kind_of(octets::byte_at(body, 32));
-    let parent = octets::u64_at(body, 33);
-    let level = expected(octets::byte_at(body, 41));
-    let blocks = octets::u64_at(body, 42);
-    let p = page::decode_page(
-        lookup::tail(body, 50),
-        reference(body),
-        &uuid,
-        kind,
-        parent,
-        level,
-        blocks,
-    );
-    report::page_line(
-        out,
-        at,
-        number,
-        p.class,
-        p.reason,
-        p.level,
-        p.data_blocks,
-        p.count as u64,
-    )
 }
 
 // A body of so many bytes is read whole, or cut.
@@ -113,22 +16,22 @@ fn read_body(body: &mut [u8]) -> bool {
 }
 
 fn root_turn(number: u64, out: &mut [u8], at: usize) -> Turn {
-    let mut body = [0u8; 4112];
+    let mut body = [0u8; body::ROOT_BODY_BYTES];
     if !read_body(&mut body) {
         return Turn::Cut;
     }
-    Turn::Answered(root_body(number, &body, out, at))
+    Turn::Answered(body::root_body_line(out, at, number, &body))
 }
 
 fn page_turn(number: u64, out: &mut [u8], at: usize) -> Turn {
-    let mut body = [0u8; 4146];
+    let mut body = [0u8; body::PAGE_BODY_BYTES];
     if !read_body(&mut body) {
         return Turn::Cut;
     }
-    if !is_kind(octets::byte_at(&body, 32)) {
+    if !body::names_a_tree(&body) {
         return Turn::Cut;
     }
-    Turn::Answered(page_body(number, &body, out, at))
+    Turn::Answered(body::page_body_line(out, at, number, &body))
 }
 
 fn one_body(number: u64, out: &mut [u8], at: usize) -> Turn {
@@ -144,7 +47,7 @@ fn one_body(number: u64, out: &mut [u8], at: usize) -> Turn {
 }
 
 fn held(out: &[u8], used: usize) -> &[u8] {
-    lookup::span(out, 0, used)
+    octets::span(out, 0, used)
 }
 
 fn flush(out: &[u8], used: usize) -> usize {

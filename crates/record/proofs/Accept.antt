@@ -1,30 +1,24 @@
 -- Accepted exactly when: each statement of specs/Accept, from the list of demands.
 use Prim.Native.Nat.{ℕ, _+_, _-_, _≤_, _<_}
-use mathlib.Core.Path.{_≡_, refl, sym, ap, _∙_}
-use mathlib.Core.Bool.{true, cond}
+use mathlib.Core.Path.{_≡_, sym, ap, _∙_}
+use mathlib.Core.Bool.{true}
 use mathlib.Core.Logic.{_↔_}
-use mathlib.Core.List.{List, [], _∷_, _++_}
+use mathlib.Core.List.{List, _++_}
 use native.Mathlib.Omega.{arith}
-use Rattle.error.specs.declared.Error.{Error}
 use Rattle.error.specs.declared.Validation.{Validation}
 use Rattle.error.specs.declared.Validation.the-variants.{Input}
 use Rattle.error.specs.declared.Check.the-variants.{Passed, Refused}
 use Rattle.error.specs.declared.Number.{Number}
-use Rattle.error.specs.Answer.{violationOf}
-use Rattle.error.specs.Demand.{Demand, _otherwise_, outcome, demands, AllHold}
-use Rattle.error.specs.Reason as reason
-use Rattle.error.proofs.Chain.{accepted-exactly}
+use Rattle.error.specs.Demand.{AllHold}
+use Rattle.error.proofs.Exactly.{accepted-exactly, number-exactly, two-chains}
 use Rattle.octets.specs.Below.{every}
-use Rattle.octets.proofs.Below.{every-at}
+use Rattle.octets.proofs.Below.{every-at, every-all}
 use Rattle.volume.specs.declared.TreeKind.{TreeKind}
-use Rattle.catalog.proofs.Accept.{number-exactly, flat, front}
 use Rattle.record.specs.Allocation.{blockTaken, takenBetween, allocationGroupDemands, validateAllocationGroup}
-use Rattle.record.specs.Cleanup.{retirementDemands, validateRetirement, detachedOwners, detachedOwnerDemands, detachedTreeRules, validateDetachedTree, orphanMarkerDemands, validateOrphanMarker, cleanupDemands, validateCleanupKeyValue, isKindRange, notNewerDemands, refAt}
+use Rattle.record.specs.Cleanup.{retirementDemands, validateRetirement, detachedTreeDemands, validateDetachedTree, orphanMarkerDemands, validateOrphanMarker, cleanupDemands, validateCleanupKeyValue}
 use Rattle.record.specs.Workspace.{workspaceKeyDemands, validateWorkspaceKey, workspaceRunDemands, validateWorkspaceRun}
-use Rattle.record.specs.Leaf.{leafRules, leafBlocks, catalogLeaf, validateLeafRecord, recordSizeDemands, leafRecordBlocks}
-use Rattle.record.specs.Accept.{RecordsAccepted}
-use Rattle.record.proofs.Taken.{all-below}
-use Rattle.record.proofs.ByKind.{none-again}
+use Rattle.record.specs.Leaf.{leafDemands, leafBlocks, validateLeafRecord, recordSizeDemands, leafRecordBlocks}
+use Rattle.record.specs.Accept.{RecordsExactly}
 use Rattle.record.proofs.Children.{child-exactly}
 
 allocation-accepted : (key value : List ℕ) (blocks : ℕ) (mode : Validation) → (validateAllocationGroup key value blocks mode ≡ Passed) ↔ AllHold (allocationGroupDemands key value blocks mode)
@@ -41,20 +35,15 @@ taken-exactly value start end = (there, back)
         ap (blockTaken value) (sym z) ∙ every-at (λ (i : ℕ). blockTaken value (start + i)) (end - start) e (block - start) (omega arith)
 
     back : ((block : ℕ) → start ≤ block → block < end → blockTaken value block ≡ true) → every (λ (i : ℕ). blockTaken value (start + i)) (end - start) ≡ true
-    back h = all-below (λ (i : ℕ). blockTaken value (start + i)) (end - start) (λ i l. h (start + i) (omega arith) (omega arith))
+    back h = every-all (λ (i : ℕ). blockTaken value (start + i)) (end - start) (λ i l. h (start + i) (omega arith) (omega arith))
 
 retirement-accepted : (key value : List ℕ) (blocks page : ℕ) (mode : Validation) → (validateRetirement key value blocks page mode ≡ Passed) ↔ AllHold (retirementDemands key value blocks page mode)
 unfolding validateRetirement
 retirement-accepted key value blocks page mode = accepted-exactly (retirementDemands key value blocks page mode)
 
-detached-flat : (key value : List ℕ) (blocks page : ℕ) (mode : Validation) → validateDetachedTree key value blocks page mode ≡ demands (detachedTreeRules key value blocks page mode)
-unfolding validateDetachedTree detachedOwners
-detached-flat key value blocks page mode =
-    front (_ otherwise violationOf mode reason.invalidDetachedTreeJob) _ _
-    (flat (detachedOwnerDemands key value mode) (isKindRange value otherwise violationOf mode reason.invalidDetachedTreeKindRange ∷ notNewerDemands (refAt value 16) blocks page mode))
-
-detached-accepted : (key value : List ℕ) (blocks page : ℕ) (mode : Validation) → (validateDetachedTree key value blocks page mode ≡ Passed) ↔ AllHold (detachedTreeRules key value blocks page mode)
-detached-accepted key value blocks page mode = rw (detached-flat key value blocks page mode) (accepted-exactly (detachedTreeRules key value blocks page mode))
+detached-accepted : (key value : List ℕ) (blocks page : ℕ) (mode : Validation) → (validateDetachedTree key value blocks page mode ≡ Passed) ↔ AllHold (detachedTreeDemands key value blocks page mode)
+unfolding validateDetachedTree
+detached-accepted key value blocks page mode = accepted-exactly (detachedTreeDemands key value blocks page mode)
 
 orphan-accepted : (key value : List ℕ) (mode : Validation) → (validateOrphanMarker key value mode ≡ Passed) ↔ AllHold (orphanMarkerDemands key value mode)
 unfolding validateOrphanMarker
@@ -72,31 +61,18 @@ workspace-run-accepted : (key value : List ℕ) (blocks : ℕ) (mode : Validatio
 unfolding validateWorkspaceRun
 workspace-run-accepted key value blocks mode = accepted-exactly (workspaceRunDemands key value blocks mode)
 
--- a leaf record, by its list of demands
-pub leaf-outcome : (kind : TreeKind) (key value : List ℕ) (blocks page : ℕ) (mode : Validation) → validateLeafRecord kind key value blocks page mode ≡ outcome (leafRules kind key value blocks page mode) Number.Refused (Number.Value (leafBlocks kind key value))
-unfolding validateLeafRecord catalogLeaf
-leaf-outcome TreeKind.Catalog key value blocks page mode = refl
-leaf-outcome TreeKind.Allocation key value blocks page mode = none-again (validateAllocationGroup key value blocks mode)
-leaf-outcome TreeKind.Cleanup key value blocks page mode = none-again (validateCleanupKeyValue key value blocks page mode)
-leaf-outcome TreeKind.Workspace key value blocks page mode = none-again (validateWorkspaceRun key value blocks mode)
+leaf-accepted : (kind : TreeKind) (key value : List ℕ) (blocks page : ℕ) (mode : Validation) (n : ℕ) → (validateLeafRecord kind key value blocks page mode ≡ Number.Value n) ↔ (AllHold (leafDemands kind key value blocks page mode) × (n ≡ leafBlocks kind key value))
+unfolding validateLeafRecord
+leaf-accepted kind key value blocks page mode n = number-exactly (leafDemands kind key value blocks page mode) (leafBlocks kind key value) n
 
-leaf-accepted : (kind : TreeKind) (key value : List ℕ) (blocks page : ℕ) (mode : Validation) (n : ℕ) → (validateLeafRecord kind key value blocks page mode ≡ Number.Value n) ↔ (AllHold (leafRules kind key value blocks page mode) × (n ≡ leafBlocks kind key value))
-leaf-accepted kind key value blocks page mode n = rw (leaf-outcome kind key value blocks page mode) (number-exactly (leafRules kind key value blocks page mode) (leafBlocks kind key value) n)
-
--- a chain whose result is a chain is one chain
-two-chains : {A : Type 0} (ds es : List Demand) (refused : Error → A) (accepted : A) → outcome ds refused (outcome es refused accepted) ≡ outcome (ds ++ es) refused accepted
-unfolding outcome
-two-chains [] es refused accepted = refl
-two-chains (d ∷ ds) es refused accepted = ap (λ x. cond (d .test) x (refused (d .refusal))) (two-chains ds es refused accepted)
-
-blocks-accepted : (kind : TreeKind) (key value : List ℕ) (blocks generation n : ℕ) → (leafRecordBlocks kind key value blocks generation ≡ Number.Value n) ↔ (AllHold (recordSizeDemands key value ++ leafRules kind key value blocks generation Input) × (n ≡ leafBlocks kind key value))
-unfolding leafRecordBlocks
+blocks-accepted : (kind : TreeKind) (key value : List ℕ) (blocks generation n : ℕ) → (leafRecordBlocks kind key value blocks generation ≡ Number.Value n) ↔ (AllHold (recordSizeDemands key value ++ leafDemands kind key value blocks generation Input) × (n ≡ leafBlocks kind key value))
+unfolding leafRecordBlocks validateLeafRecord
 blocks-accepted kind key value blocks generation n =
-    rw (leaf-outcome kind key value blocks generation Input, two-chains (recordSizeDemands key value) (leafRules kind key value blocks generation Input) Number.Refused (Number.Value (leafBlocks kind key value)))
-    (number-exactly (recordSizeDemands key value ++ leafRules kind key value blocks generation Input) (leafBlocks kind key value) n)
+    rw (two-chains (recordSizeDemands key value) (leafDemands kind key value blocks generation Input) Number.Refused (Number.Value (leafBlocks kind key value)))
+    (number-exactly (recordSizeDemands key value ++ leafDemands kind key value blocks generation Input) (leafBlocks kind key value) n)
 
-pub records-accepted : RecordsAccepted
-records-accepted = record {
+pub records-exactly : RecordsExactly
+records-exactly = record {
   allocation-group = allocation-accepted;
   taken = taken-exactly;
   retirement = retirement-accepted;

@@ -11,25 +11,28 @@ use Rattle.error.specs.declared.Validation.{Validation}
 use Rattle.error.specs.declared.Check.{Check}
 use Rattle.error.specs.declared.Check.the-variants.{Passed, Refused}
 use Rattle.error.specs.declared.Number.{Number}
-use Rattle.error.specs.Answer.{violationOf}
-use Rattle.error.specs.Demand.{Demand, passing, outcome, demands}
+use Rattle.error.specs.Answer.{violationOf, numberCheck}
+use Rattle.error.specs.Demand.{Demand, _otherwise_, passing, outcome, demands}
 use Rattle.error.specs.Reason as reason
-use Rattle.error.proofs.Chain.{by, outcome-by, inner-holds, last-check, chain}
+use Rattle.error.proofs.Exactly.{by, outcome-by, flat, front}
+use Rattle.error.proofs.Chain.{inner-holds, last-check, chain}
 use Rattle.group.specs.Group.{validateChecksumGroup}
 use Rattle.octets.specs.Number.{u64At}
 use Rattle.volume.specs.declared.TreeKind.{TreeKind}
 use Rattle.volume.specs.Blocks.{isNonreservedBlock}
-use Rattle.catalog.specs.Numbers.{checkOf, sumFits}
+use Rattle.volume.specs.References.{refAt}
+use Rattle.volume.specs.Numbers.{sumFits}
 use Rattle.catalog.proofs.Fields.{owner-at}
 use Rattle.catalog.specs.Keys.{keyKind, validateOwnerId, validateCatalogKey}
 use Rattle.catalog.specs.Inode.{validateInode}
 use Rattle.catalog.specs.Entry.{validateDirectoryEntry}
 use Rattle.catalog.specs.Extent.{extentCount, extentDemands, validateExtent}
-use Rattle.record.specs.Cleanup.{cleanupKind, cleanupNumber, cleanupBlock, detachedOwners, validateRetirement, validateDetachedTree, validateOrphanMarker, cleanupRecord, validateCleanupKeyValue}
+use Rattle.record.specs.Cleanup.{cleanupKind, cleanupNumber, cleanupBlock, validateRetirement, detachedOwnerDemands, isKindRange, notNewerDemands, validateDetachedTree, validateOrphanMarker, cleanupRecord, validateCleanupKeyValue}
+use Rattle.record.specs.Inside.{detachedOwners, detachedTreeGroups, countsNone, catalogLeaf}
 use Rattle.record.specs.Workspace.{runEndDemands, validateWorkspaceRun}
 use Rattle.record.specs.Allocation.{validateAllocationGroup}
 use Rattle.record.specs.Internal.{retirementKey, cleanupInternalKey}
-use Rattle.record.specs.Leaf.{countsNone, uncountedRecord, catalogRecord, catalogBlocks, catalogLeaf, validateLeafRecord}
+use Rattle.record.specs.Leaf.{uncountedRecord, catalogRecord, catalogBlocks, validateLeafRecord}
 
 -- ---- cleanup records
 module _ (key value : List ℕ) (blocks page : ℕ) (mode : Validation) (kind : ℕ) (e : kind ≡ cleanupKind key) (r : Check) where
@@ -82,7 +85,7 @@ unfolding uncountedRecord
 is-strange key value blocks mode kind e x a b c p = ap Refused p ∙ rw (← e, ne-eqb kind 1 a, ne-eqb kind 2 b, ne-eqb kind 4 c)
 
 -- ---- a check that is the last of a chain answers with the chain's value
-again : (n : Number) (v : ℕ) → ((w : ℕ) → n ≡ Number.Value w → w ≡ v) → n ≡ outcome (passing (checkOf n) ∷ []) Number.Refused (Number.Value v)
+again : (n : Number) (v : ℕ) → ((w : ℕ) → n ≡ Number.Value w → w ≡ v) → n ≡ outcome (passing (numberCheck n) ∷ []) Number.Refused (Number.Value v)
 unfolding outcome
 again (Number.Value w) v h = ap Number.Value (h w refl)
 again (Number.Refused x) v h = refl
@@ -118,20 +121,20 @@ module _ (key value : List ℕ) (blocks : ℕ) (mode : Validation) (k r : Number
 -- ---- leaf records, by the tree's kind
 module _ (kind : TreeKind) (key value : List ℕ) (blocks page : ℕ) (mode : Validation) (r : Number) where
   pub in-catalog : kind ≡ TreeKind.Catalog → r ≡ catalogLeaf key value blocks mode → r ≡ validateLeafRecord kind key value blocks page mode
-  unfolding validateLeafRecord
+  unfolding validateLeafRecord catalogLeaf
   in-catalog k p = p ∙ rw k
 
   pub in-allocation : (c : Check) → kind ≡ TreeKind.Allocation → r ≡ countsNone c → c ≡ validateAllocationGroup key value blocks mode → r ≡ validateLeafRecord kind key value blocks page mode
   unfolding validateLeafRecord
-  in-allocation c k p q = p ∙ rw (q, k)
+  in-allocation c k p q = p ∙ none-again c ∙ rw (q, k)
 
   pub in-cleanup : (c : Check) → kind ≡ TreeKind.Cleanup → r ≡ countsNone c → c ≡ validateCleanupKeyValue key value blocks page mode → r ≡ validateLeafRecord kind key value blocks page mode
   unfolding validateLeafRecord
-  in-cleanup c k p q = p ∙ rw (q, k)
+  in-cleanup c k p q = p ∙ none-again c ∙ rw (q, k)
 
   pub in-workspace : (c : Check) → kind ≡ TreeKind.Workspace → r ≡ countsNone c → c ≡ validateWorkspaceRun key value blocks mode → r ≡ validateLeafRecord kind key value blocks page mode
   unfolding validateLeafRecord
-  in-workspace c k p q = p ∙ rw (q, k)
+  in-workspace c k p q = p ∙ none-again c ∙ rw (q, k)
 
 -- ---- the last return of a chain, where the search has too much to look through
 
@@ -141,3 +144,10 @@ owners-end key value mode job r x y a b c d e = inner-holds Refused Passed r job
 
 pub run-ends : (first count blocks : ℕ) (mode : Validation) (fit there : Bool) → (count ≡ 0 → ⊥) → not fit ≡ false → fit ≡ sumFits first (count - 1) → not there ≡ false → there ≡ isNonreservedBlock (first + (count - 1)) blocks → Passed ≡ demands (runEndDemands first count blocks mode)
 run-ends first count blocks mode fit there n a b c d = search chain depth 12
+
+-- a detached tree's groups of demands are its demands, one after the other
+pub detached-grouped : (key value : List ℕ) (blocks page : ℕ) (mode : Validation) {x : Check} → x ≡ demands (detachedTreeGroups key value blocks page mode) → x ≡ validateDetachedTree key value blocks page mode
+unfolding validateDetachedTree detachedOwners
+detached-grouped key value blocks page mode e =
+    e ∙ front (_ otherwise violationOf mode reason.invalidDetachedTreeJob) _ _
+    (flat (detachedOwnerDemands key value mode) (isKindRange value otherwise violationOf mode reason.invalidDetachedTreeKindRange ∷ notNewerDemands (refAt value 16) blocks page mode))

@@ -12,7 +12,7 @@ use Rattle.error.specs.Demand.{AllHold}
 use Rattle.octets.specs.Number.{u64At}
 use Rattle.volume.specs.declared.TreeRef.{TreeRef}
 use Rattle.volume.specs.declared.TreeKind.{TreeKind}
-use Rattle.catalog.proofs.Accept.{given-exactly}
+use Rattle.error.proofs.Exactly.{given-exactly}
 use Rattle.record.specs.declared.Child.{Child}
 use Rattle.record.specs.Internal.{childRef, internalDemands, validateInternalRecord}
 

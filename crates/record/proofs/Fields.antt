@@ -1,7 +1,7 @@
 -- A check of a field: what a call says of the number that was read, said of the field. `search (fields, chain)` goes by these.
 use mathlib.Core.Path.{_≡_, sym, ap, _∙_}
 use mathlib.Core.Bool.{Bool, true, false}
-use mathlib.Core.List.{List, _∷_}
+use mathlib.Core.List.{List}
 use Prim.Native.Nat.{ℕ, _≤_, _<_}
 use borrow.Author.Tests.{lt-ltb, le-ltb}
 use lib.Dec.{ltb}
@@ -9,39 +9,30 @@ use Rattle.error.specs.declared.Error.{Error}
 use Rattle.error.specs.declared.Validation.{Validation}
 use Rattle.error.specs.declared.Check.{Check}
 use Rattle.error.specs.declared.Number.{Number}
-use Rattle.error.specs.Demand.{Demand, passing, outcome, demands}
+use Rattle.error.specs.Demand.{isPassed, outcome, demands}
 use Rattle.volume.specs.declared.TreeRef.{TreeRef}
 use Rattle.volume.specs.declared.TreeKind.{TreeKind}
-use Rattle.catalog.specs.Numbers.{checkOf}
+use Rattle.error.specs.Answer.{numberCheck, numberOf}
 use Rattle.catalog.proofs.Fields.{owner-at, nonreserved-at}
 use Rattle.record.specs.declared.Child.{Child}
-use Rattle.record.specs.Allocation.{hasValue, valueOf, validateGroupIndex, reservedTaken}
+use Rattle.record.specs.Allocation.{validateGroupIndex, reservedTaken}
 use Rattle.record.specs.Cleanup.{retirementRangeDemands, notNewerDemands}
 use Rattle.record.specs.Workspace.{runEndDemands}
 use Rattle.record.specs.Internal.{retirementKey, childDemands}
 
 -- ---- a check that gives a number
 
-pub counted : {r : Number} {n : ℕ} (c : Number) → r ≡ Number.Value n → r ≡ c → hasValue c ≡ true
+pub counted : {r : Number} {n : ℕ} (c : Number) → r ≡ Number.Value n → r ≡ c → isPassed (numberCheck c) ≡ true
 counted c p e = rw (sym e ∙ p)
 
-pub uncounted : {r : Number} {x : Error} (c : Number) → r ≡ Number.Refused x → r ≡ c → hasValue c ≡ false
+pub uncounted : {r : Number} {x : Error} (c : Number) → r ≡ Number.Refused x → r ≡ c → isPassed (numberCheck c) ≡ false
 uncounted c p e = rw (sym e ∙ p)
 
-pub inside : {r : Number} {n : ℕ} (m : ℕ) (c : Number) → r ≡ Number.Value n → r ≡ c → m < n → ltb m (valueOf c) ≡ true
+pub inside : {r : Number} {n : ℕ} (m : ℕ) (c : Number) → r ≡ Number.Value n → r ≡ c → m < n → ltb m (numberOf c) ≡ true
 inside {r} {n} m c p e h = rw (sym e ∙ p) (lt-ltb m n h)
 
-pub outside : {r : Number} {n : ℕ} (m : ℕ) (c : Number) → r ≡ Number.Value n → r ≡ c → n ≤ m → ltb m (valueOf c) ≡ false
+pub outside : {r : Number} {n : ℕ} (m : ℕ) (c : Number) → r ≡ Number.Value n → r ≡ c → n ≤ m → ltb m (numberOf c) ≡ false
 outside {r} {n} m c p e h = rw (sym e ∙ p) (le-ltb m n h)
-
-module _ {A : Type 0} (refused : Error → A) (accepted : A) where
-  pub number-fails : (x : A) (r c : Number) (e : Error) (ds : List Demand) → r ≡ c → r ≡ Number.Refused e → x ≡ refused e → x ≡ outcome (passing (checkOf c) ∷ ds) refused accepted
-  unfolding outcome
-  number-fails x r c e ds p q k = k ∙ rw (sym p ∙ q)
-
-  pub number-holds : (x : A) (r c : Number) (n : ℕ) (ds : List Demand) → r ≡ c → r ≡ Number.Value n → x ≡ outcome ds refused accepted → x ≡ outcome (passing (checkOf c) ∷ ds) refused accepted
-  unfolding outcome
-  number-holds x r c n ds p q k = k ∙ rw (sym p ∙ q)
 
 -- ---- a check of numbers that were read
 
@@ -69,4 +60,4 @@ child-at reference kind blocks page mode p e = rw e at p
 pub child-refused-same : (y e : Error) → y ≡ e → Child.Refused y ≡ Child.Refused e
 child-refused-same y e p = ap Child.Refused p
 
-pub ruleset fields = (owner-at, nonreserved-at, counted, uncounted, inside, outside, number-fails, number-holds, index-at, reserved-at, retirement-at, newer-at, run-at, retirement-key-at, child-at, child-refused-same)
+pub ruleset fields = (owner-at, nonreserved-at, counted, uncounted, inside, outside, index-at, reserved-at, retirement-at, newer-at, run-at, retirement-key-at, child-at, child-refused-same)

@@ -2,7 +2,7 @@
 use mathlib.Core.Path.{_≡_, refl, sym, ap, _∙_}
 use mathlib.Core.Bool.{Bool, true, false, not, _&&_}
 use mathlib.Core.List.{List}
-use Prim.Native.Nat.{ℕ, zero, suc, _+_, _-_, _*_, _/_, _%_, _^_, _≤_, _<_}
+use Prim.Native.Nat.{ℕ, _+_, _-_, _*_, _/_, _%_, _^_, _≤_, _<_}
 use native.Mathlib.Decide.{decLt}
 use native.Mathlib.Omega.{arith}
 use borrow.Author.Tests.{eqb-true, eqb-false, leb-true, not-true, not-false}
@@ -13,10 +13,10 @@ use mir.Syntax.{w64}
 use mir.Val.{Fits}
 use Rattle.error.proofs.Tests.{and-left, and-right}
 use Rattle.octets.specs.Bytes.{bit, bitSet}
-use Rattle.octets.specs.Below.{every}
 use Rattle.octets.proofs.Bit.{mask-clear, mask-set}
-use Rattle.octets.proofs.Below.{every-at, every-false}
-use Rattle.record.specs.Allocation.{blockTaken, fullByte, takenBetween}
+use Rattle.octets.proofs.Below.{every-at, every-false, every-all}
+use Rattle.record.specs.Allocation.{blockTaken, takenBetween}
+use Rattle.record.specs.Inside.{fullByte}
 
 -- the mask of the code
 pub masked : (g : List ℕ) (s : ℕ) → not (eqb (bitAnd (getD g (s / 8) 0) ((1 * 2 ^ (s % 8)) % 2 ^ 8)) 0) ≡ bitSet g s
@@ -43,10 +43,6 @@ full-taken value block left i e h =
     rw (q, r, byte, ones i h)
 
 -- ---- the walk
-
-pub all-below : (f : ℕ → Bool) (n : ℕ) → ((i : ℕ) → i < n → f i ≡ true) → every f n ≡ true
-all-below f zero h = refl
-all-below f (suc n) h = rw (h n (omega arith), all-below f n (λ i l. h i (omega arith)))
 
 -- each block from start up to but not including the present one is taken
 pub record Walked (value : List ℕ) (start block : ℕ) : Type 0 where
@@ -77,7 +73,7 @@ module _ (value : List ℕ) (start end block : ℕ) (w : Walked value start bloc
 
   pub walk-ends : end ≤ block → true ≡ takenBetween value start end
   unfolding takenBetween
-  walk-ends h = sym (all-below (λ (i : ℕ). blockTaken value (start + i)) (end - start) (λ i l. w .taken i (omega arith)))
+  walk-ends h = sym (every-all (λ (i : ℕ). blockTaken value (start + i)) (end - start) (λ i l. w .taken i (omega arith)))
 
   pub walk-stops : block < end → (r : Bool) → not r ≡ true → r ≡ blockTaken value block → false ≡ takenBetween value start end
   unfolding takenBetween

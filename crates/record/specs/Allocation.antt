@@ -1,35 +1,25 @@
 -- Allocation groups (01, sections 2 and 5): a bitmap of 16,384 blocks, a taken block's bit set.
-use Prim.Native.Nat.{ℕ, _+_, _-_, _/_, _%_}
-use mathlib.Core.Bool.{Bool, true, false, _&&_}
+use Prim.Native.Nat.{ℕ, _+_, _-_, _%_}
+use mathlib.Core.Bool.{Bool, _&&_}
 use mathlib.Core.List.{List, [], _∷_}
-use lib.Dec.{eqb, leb, ltb}
+use lib.Dec.{eqb, ltb}
 use lib.ListN.{length}
 use Rattle.error.specs.declared.Validation.{Validation}
 use Rattle.error.specs.declared.Check.{Check}
-use Rattle.error.specs.declared.Number.{Number}
-use Rattle.error.specs.Answer.{violationOf}
-use Rattle.error.specs.Demand.{Demand, _otherwise_, passing, demands}
+use Rattle.error.specs.Answer.{violationOf, numberCheck, numberOf}
+use Rattle.error.specs.Demand.{Demand, _otherwise_, passing, isPassed, demands}
 use Rattle.error.specs.Reason as reason
-use Rattle.octets.specs.Bytes.{byteAt, bitSet}
+use Rattle.octets.specs.Bytes.{bitSet}
 use Rattle.octets.specs.Number.{bigAt}
 use Rattle.octets.specs.Below.{every}
 use Rattle.volume.specs.declared.GroupBlocks.{GroupBlocks}
-use Rattle.volume.specs.Groups.{groupBlocks, allocationGroupCount, reservedGroupBlocks}
-
-abbrev pub hasValue : Number → Bool
-hasValue (Number.Value n) = true
-hasValue (Number.Refused e) = false
-
--- the number that a check gave; of one that refused it is never asked
-abbrev pub valueOf : Number → ℕ
-valueOf (Number.Value n) = n
-valueOf (Number.Refused e) = 0
+use Rattle.volume.specs.Groups.{allocationGroupBlocks, allocationGroupCount, reservedGroupBlocks}
 
 -- the number of a group is below the volume's count of groups; where the count passes 64 bits, the mode's refusal takes the place of its class 3
 abbrev pub groupIndexDemands : ℕ → ℕ → ℕ → ℕ → Validation → List Demand
 groupIndexDemands group blocks uncounted outside mode =
-    hasValue (allocationGroupCount blocks) otherwise violationOf mode uncounted
-    ∷ ltb group (valueOf (allocationGroupCount blocks)) otherwise violationOf mode outside
+    isPassed (numberCheck (allocationGroupCount blocks)) otherwise violationOf mode uncounted
+    ∷ ltb group (numberOf (allocationGroupCount blocks)) otherwise violationOf mode outside
     ∷ []
 
 unfoldable pub validateGroupIndex : ℕ → ℕ → ℕ → ℕ → Validation → Check
@@ -37,7 +27,7 @@ validateGroupIndex group blocks uncounted outside mode = demands (groupIndexDema
 
 -- the bit of a block in the bitmap of its group
 abbrev pub blockTaken : List ℕ → ℕ → Bool
-blockTaken value block = bitSet value (block % groupBlocks)
+blockTaken value block = bitSet value (block % allocationGroupBlocks)
 
 -- each block from start up to but not including end is taken
 unfoldable pub takenBetween : List ℕ → ℕ → ℕ → Bool
@@ -62,7 +52,3 @@ allocationGroupDemands key value blocks mode =
 
 unfoldable pub validateAllocationGroup : List ℕ → List ℕ → ℕ → Validation → Check
 validateAllocationGroup key value blocks mode = demands (allocationGroupDemands key value blocks mode)
-
--- how the code passes over eight blocks at once; no definition rests on it: a byte of the bitmap starts at the block, its eight blocks are among those left, and all are taken
-abbrev pub fullByte : List ℕ → ℕ → ℕ → Bool
-fullByte value block left = eqb (block % 8) 0 && leb 8 left && eqb (byteAt value (block % groupBlocks / 8)) 255

@@ -7,7 +7,7 @@ use lib.IntN.{pos, negℤ}
 use lib.ListN.{replicate}
 use Rattle.error.specs.declared.Validation.the-variants.{Disk}
 use Rattle.error.specs.Demand.{isPassed, allTrue}
-use Rattle.catalog.specs.Numbers.{checkOf}
+use Rattle.error.specs.Answer.{numberCheck}
 use Rattle.catalog.specs.Times.{validateTimestampRange}
 use Rattle.catalog.specs.Extent.{validateExtent}
 use Rattle.record.specs.Cleanup.{validateCleanupKeyValue}
@@ -26,8 +26,8 @@ orphanKey object = 3 ∷ (replicate 7 0 ++ (object ∷ []))
 unfoldable pub cases : List Bool
 cases =
     -- B = 1,025: extent at 512 of count 1 passes, count 2 doesn't
-    isPassed (checkOf (validateExtent extentKey (extentAt512 1) 1025 Disk))
-    ∷ not (isPassed (checkOf (validateExtent extentKey (extentAt512 2) 1025 Disk)))
+    isPassed (numberCheck (validateExtent extentKey (extentAt512 1) 1025 Disk))
+    ∷ not (isPassed (numberCheck (validateExtent extentKey (extentAt512 2) 1025 Disk)))
     -- seconds -11644473600 pass, one less fails
     ∷ isPassed (validateTimestampRange (negℤ (pos 11644473600)) 0 Disk)
     ∷ not (isPassed (validateTimestampRange (negℤ (pos 11644473601)) 0 Disk))

@@ -1,7 +1,7 @@
 -- Records of the cleanup tree (01, section 5): retired runs of blocks (1), detached trees (2), orphans (3).
-use Prim.Native.Nat.{ℕ, _+_}
+use Prim.Native.Nat.{ℕ}
 use mathlib.Core.Bool.{Bool, not, _&&_, _||_, cond}
-use mathlib.Core.List.{List, [], _∷_}
+use mathlib.Core.List.{List, [], _∷_, _++_}
 use lib.Dec.{leb, eqb}
 use lib.ListN.{length}
 use Rattle.error.specs.declared.Validation.{Validation}
@@ -13,10 +13,10 @@ use Rattle.error.specs.Reason as reason
 use Rattle.octets.specs.Bytes.{byteAt, part, allZero}
 use Rattle.octets.specs.Number.{u32At, u64At, bigAt}
 use Rattle.volume.specs.declared.TreeRef.{TreeRef}
-use Rattle.volume.specs.References.{validateTreeRef}
-use Rattle.catalog.specs.Numbers.{sumFits}
+use Rattle.volume.specs.References.{refAt, validateTreeRef}
+use Rattle.volume.specs.Numbers.{sumFits}
+use Rattle.volume.specs.Blocks.{isNonreservedRun}
 use Rattle.catalog.specs.Keys.{validateOwnerId}
-use Rattle.catalog.specs.Extent.{isNonreservedRun}
 
 -- a key of the cleanup tree: its kind, a number of 8 bytes, and for a retirement the first block
 abbrev pub cleanupKind : List ℕ → ℕ
@@ -28,28 +28,24 @@ cleanupNumber key = bigAt key 1
 abbrev pub cleanupBlock : List ℕ → ℕ
 cleanupBlock key = bigAt key 9
 
--- a stored reference: block u64, generation u64
-abbrev pub refAt : List ℕ → ℕ → TreeRef
-refAt value offset = record { block = u64At value offset; generation = u64At value (offset + 8) }
-
 -- a retirement: the generation and the first block in the key, a count u32 and a reserved u32 in the value
 unfoldable pub isRetirementRange : ℕ → ℕ → ℕ → ℕ → ℕ → ℕ → Bool
-isRetirementRange generation first count reserved blocks page =
-    not (eqb generation 0) && leb generation page && not (eqb count 0) && eqb reserved 0 && isNonreservedRun first count blocks
+isRetirementRange generation first count reserved blocks pageGeneration =
+    not (eqb generation 0) && leb generation pageGeneration && not (eqb count 0) && eqb reserved 0 && isNonreservedRun first count blocks
 
 abbrev pub retirementRangeDemands : ℕ → ℕ → ℕ → ℕ → ℕ → ℕ → Validation → List Demand
-retirementRangeDemands generation first count reserved blocks page mode =
+retirementRangeDemands generation first count reserved blocks pageGeneration mode =
     sumFits first count otherwise violationOf mode reason.retirementRange
-    ∷ isRetirementRange generation first count reserved blocks page otherwise violationOf mode reason.invalidRetirementRange
+    ∷ isRetirementRange generation first count reserved blocks pageGeneration otherwise violationOf mode reason.invalidRetirementRange
     ∷ []
 
 abbrev pub retirementDemands : List ℕ → List ℕ → ℕ → ℕ → Validation → List Demand
-retirementDemands key value blocks page mode =
+retirementDemands key value blocks pageGeneration mode =
     (eqb (length key) 17 && eqb (length value) 8) otherwise violationOf mode reason.invalidRetirementRecord
-    ∷ retirementRangeDemands (cleanupNumber key) (cleanupBlock key) (u32At value 0) (u32At value 4) blocks page mode
+    ∷ retirementRangeDemands (cleanupNumber key) (cleanupBlock key) (u32At value 0) (u32At value 4) blocks pageGeneration mode
 
 unfoldable pub validateRetirement : List ℕ → List ℕ → ℕ → ℕ → Validation → Check
-validateRetirement key value blocks page mode = demands (retirementDemands key value blocks page mode)
+validateRetirement key value blocks pageGeneration mode = demands (retirementDemands key value blocks pageGeneration mode)
 
 -- a detached tree: the job in the key; the owner, the lowest and the highest kind, six zeros and the reference in the value
 unfoldable pub isKindRange : List ℕ → Bool
@@ -63,33 +59,21 @@ detachedOwnerDemands key value mode =
     ∷ passing (validateOwnerId (u64At value 0) mode)
     ∷ []
 
-unfoldable pub detachedOwners : List ℕ → List ℕ → Validation → Check
-detachedOwners key value mode = demands (detachedOwnerDemands key value mode)
-
 abbrev pub notNewerDemands : TreeRef → ℕ → ℕ → Validation → List Demand
-notNewerDemands reference blocks page mode =
+notNewerDemands reference blocks pageGeneration mode =
     passing (validateTreeRef reference blocks mode)
-    ∷ leb (reference .generation) page otherwise violationOf mode reason.detachedTreeReferenceIsNewer
+    ∷ leb (reference .generation) pageGeneration otherwise violationOf mode reason.detachedTreeReferenceIsNewer
     ∷ []
 
+-- the lengths, the two owners, the kinds, and the reference, which is not newer than the page
 abbrev pub detachedTreeDemands : List ℕ → List ℕ → ℕ → ℕ → Validation → List Demand
-detachedTreeDemands key value blocks page mode =
+detachedTreeDemands key value blocks pageGeneration mode =
     (eqb (length key) 9 && eqb (length value) 32) otherwise violationOf mode reason.invalidDetachedTreeJob
-    ∷ passing (detachedOwners key value mode)
-    ∷ isKindRange value otherwise violationOf mode reason.invalidDetachedTreeKindRange
-    ∷ notNewerDemands (refAt value 16) blocks page mode
+    ∷ detachedOwnerDemands key value mode
+    ++ (isKindRange value otherwise violationOf mode reason.invalidDetachedTreeKindRange ∷ notNewerDemands (refAt value 16) blocks pageGeneration mode)
 
 unfoldable pub validateDetachedTree : List ℕ → List ℕ → ℕ → ℕ → Validation → Check
-validateDetachedTree key value blocks page mode = demands (detachedTreeDemands key value blocks page mode)
-
--- the same demands in one list
-abbrev pub detachedTreeRules : List ℕ → List ℕ → ℕ → ℕ → Validation → List Demand
-detachedTreeRules key value blocks page mode =
-    (eqb (length key) 9 && eqb (length value) 32) otherwise violationOf mode reason.invalidDetachedTreeJob
-    ∷ passing (validateOwnerId (cleanupNumber key) mode)
-    ∷ passing (validateOwnerId (u64At value 0) mode)
-    ∷ isKindRange value otherwise violationOf mode reason.invalidDetachedTreeKindRange
-    ∷ notNewerDemands (refAt value 16) blocks page mode
+validateDetachedTree key value blocks pageGeneration mode = demands (detachedTreeDemands key value blocks pageGeneration mode)
 
 -- an orphan marker: the object in the key, no value
 abbrev pub orphanMarkerDemands : List ℕ → List ℕ → Validation → List Demand
@@ -103,9 +87,9 @@ validateOrphanMarker key value mode = demands (orphanMarkerDemands key value mod
 
 -- by the kind
 unfoldable pub cleanupRecord : List ℕ → List ℕ → ℕ → ℕ → Validation → Check
-cleanupRecord key value blocks page mode =
-    cond (eqb (cleanupKind key) 1) (validateRetirement key value blocks page mode)
-    (cond (eqb (cleanupKind key) 2) (validateDetachedTree key value blocks page mode)
+cleanupRecord key value blocks pageGeneration mode =
+    cond (eqb (cleanupKind key) 1) (validateRetirement key value blocks pageGeneration mode)
+    (cond (eqb (cleanupKind key) 2) (validateDetachedTree key value blocks pageGeneration mode)
     (cond (eqb (cleanupKind key) 3) (validateOrphanMarker key value mode)
     (Refused (violationOf mode reason.unknownCleanupRecordKind))))
 
@@ -113,10 +97,10 @@ abbrev pub isCleanupLength : ℕ → Bool
 isCleanupLength n = eqb n 9 || eqb n 17
 
 abbrev pub cleanupDemands : List ℕ → List ℕ → ℕ → ℕ → Validation → List Demand
-cleanupDemands key value blocks page mode =
+cleanupDemands key value blocks pageGeneration mode =
     isCleanupLength (length key) otherwise violationOf mode reason.invalidCleanupKeyLength
-    ∷ passing (cleanupRecord key value blocks page mode)
+    ∷ passing (cleanupRecord key value blocks pageGeneration mode)
     ∷ []
 
 unfoldable pub validateCleanupKeyValue : List ℕ → List ℕ → ℕ → ℕ → Validation → Check
-validateCleanupKeyValue key value blocks page mode = demands (cleanupDemands key value blocks page mode)
+validateCleanupKeyValue key value blocks pageGeneration mode = demands (cleanupDemands key value blocks pageGeneration mode)

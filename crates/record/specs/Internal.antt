@@ -7,18 +7,17 @@ use lib.ListN.{length}
 use Rattle.error.specs.declared.Validation.{Validation}
 use Rattle.error.specs.declared.Check.{Check}
 use Rattle.error.specs.declared.Check.the-variants.{Refused}
-use Rattle.error.specs.Answer.{violationOf}
+use Rattle.error.specs.Answer.{violationOf, numberCheck}
 use Rattle.error.specs.Demand.{Demand, _otherwise_, passing, outcome, demands}
 use Rattle.error.specs.Reason as reason
 use Rattle.volume.specs.declared.TreeRef.{TreeRef}
 use Rattle.volume.specs.declared.TreeKind.{TreeKind}
 use Rattle.volume.specs.Blocks.{isNonreservedBlock}
-use Rattle.volume.specs.References.{validatePageRef}
-use Rattle.catalog.specs.Numbers.{checkOf}
+use Rattle.volume.specs.References.{refAt, validatePageRef}
 use Rattle.catalog.specs.Keys.{validateOwnerId, validateCatalogKey}
 use Rattle.record.specs.declared.Child.{Child}
 use Rattle.record.specs.Allocation.{groupNumber, validateGroupIndex}
-use Rattle.record.specs.Cleanup.{cleanupKind, cleanupNumber, cleanupBlock, refAt}
+use Rattle.record.specs.Cleanup.{cleanupKind, cleanupNumber, cleanupBlock}
 use Rattle.record.specs.Workspace.{validateWorkspaceKey}
 
 abbrev pub allocationKeyDemands : List ℕ → ℕ → Validation → List Demand
@@ -32,43 +31,43 @@ allocationInternalKey key blocks mode = demands (allocationKeyDemands key blocks
 
 -- the key of a retirement: a generation that is not newer than the page, and a block that is not reserved
 abbrev pub retirementKeyDemands : ℕ → ℕ → ℕ → ℕ → Validation → List Demand
-retirementKeyDemands generation first blocks page mode =
-    (not (eqb generation 0) && leb generation page) otherwise violationOf mode reason.invalidRetirementGeneration
+retirementKeyDemands generation first blocks pageGeneration mode =
+    (not (eqb generation 0) && leb generation pageGeneration) otherwise violationOf mode reason.invalidRetirementGeneration
     ∷ isNonreservedBlock first blocks otherwise violationOf mode reason.invalidRetirementBlock
     ∷ []
 
 unfoldable pub retirementKey : ℕ → ℕ → ℕ → ℕ → Validation → Check
-retirementKey generation first blocks page mode = demands (retirementKeyDemands generation first blocks page mode)
+retirementKey generation first blocks pageGeneration mode = demands (retirementKeyDemands generation first blocks pageGeneration mode)
 
 -- kind 1 has 17 bytes, kinds 2 and 3 have 9
 unfoldable pub cleanupInternalKey : List ℕ → ℕ → ℕ → Validation → Check
-cleanupInternalKey key blocks page mode =
-    cond (eqb (cleanupKind key) 1 && eqb (length key) 17) (retirementKey (cleanupNumber key) (cleanupBlock key) blocks page mode)
+cleanupInternalKey key blocks pageGeneration mode =
+    cond (eqb (cleanupKind key) 1 && eqb (length key) 17) (retirementKey (cleanupNumber key) (cleanupBlock key) blocks pageGeneration mode)
     (cond ((eqb (cleanupKind key) 2 || eqb (cleanupKind key) 3) && eqb (length key) 9) (validateOwnerId (cleanupNumber key) mode)
     (Refused (violationOf mode reason.invalidCleanupInternalKey)))
 
 -- by the tree's kind
 unfoldable pub internalKey : TreeKind → List ℕ → ℕ → ℕ → Validation → Check
-internalKey TreeKind.Catalog key blocks page mode = checkOf (validateCatalogKey key mode)
-internalKey TreeKind.Allocation key blocks page mode = allocationInternalKey key blocks mode
-internalKey TreeKind.Cleanup key blocks page mode = cleanupInternalKey key blocks page mode
-internalKey TreeKind.Workspace key blocks page mode = validateWorkspaceKey key blocks mode
+internalKey TreeKind.Catalog key blocks pageGeneration mode = numberCheck (validateCatalogKey key mode)
+internalKey TreeKind.Allocation key blocks pageGeneration mode = allocationInternalKey key blocks mode
+internalKey TreeKind.Cleanup key blocks pageGeneration mode = cleanupInternalKey key blocks pageGeneration mode
+internalKey TreeKind.Workspace key blocks pageGeneration mode = validateWorkspaceKey key blocks mode
 
 abbrev pub childRef : List ℕ → TreeRef
 childRef value = refAt value 0
 
 abbrev pub childDemands : TreeRef → TreeKind → ℕ → ℕ → Validation → List Demand
-childDemands reference kind blocks page mode =
+childDemands reference kind blocks pageGeneration mode =
     passing (validatePageRef reference kind blocks mode)
-    ∷ leb (reference .generation) page otherwise violationOf mode reason.childGenerationIsNewerThanParent
+    ∷ leb (reference .generation) pageGeneration otherwise violationOf mode reason.childGenerationIsNewerThanParent
     ∷ []
 
 abbrev pub internalDemands : TreeKind → List ℕ → List ℕ → ℕ → ℕ → Validation → List Demand
-internalDemands kind key value blocks page mode =
-    passing (internalKey kind key blocks page mode)
+internalDemands kind key value blocks pageGeneration mode =
+    passing (internalKey kind key blocks pageGeneration mode)
     ∷ eqb (length value) 16 otherwise violationOf mode reason.internalValueIsNotATreeReference
-    ∷ childDemands (childRef value) kind blocks page mode
+    ∷ childDemands (childRef value) kind blocks pageGeneration mode
 
 -- the reference
 unfoldable pub validateInternalRecord : TreeKind → List ℕ → List ℕ → ℕ → ℕ → Validation → Child
-validateInternalRecord kind key value blocks page mode = outcome (internalDemands kind key value blocks page mode) Child.Refused (Child.Reference (childRef value))
+validateInternalRecord kind key value blocks pageGeneration mode = outcome (internalDemands kind key value blocks pageGeneration mode) Child.Refused (Child.Reference (childRef value))

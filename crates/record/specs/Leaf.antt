@@ -8,14 +8,13 @@ use Rattle.error.specs.declared.Error.the-variants.{InvalidInput}
 use Rattle.error.specs.declared.Validation.{Validation}
 use Rattle.error.specs.declared.Validation.the-variants.{Input}
 use Rattle.error.specs.declared.Check.{Check}
-use Rattle.error.specs.declared.Check.the-variants.{Passed, Refused}
+use Rattle.error.specs.declared.Check.the-variants.{Refused}
 use Rattle.error.specs.declared.Number.{Number}
-use Rattle.error.specs.Answer.{violationOf}
+use Rattle.error.specs.Answer.{violationOf, numberCheck}
 use Rattle.error.specs.Demand.{Demand, _otherwise_, passing, outcome}
 use Rattle.error.specs.Reason as reason
 use Rattle.volume.specs.declared.TreeKind.{TreeKind}
 use Rattle.group.specs.Group.{validateChecksumGroup}
-use Rattle.catalog.specs.Numbers.{checkOf}
 use Rattle.catalog.specs.Keys.{keyKind, validateCatalogKey}
 use Rattle.catalog.specs.Inode.{validateInode}
 use Rattle.catalog.specs.Entry.{validateDirectoryEntry}
@@ -23,11 +22,6 @@ use Rattle.catalog.specs.Extent.{extentCount, validateExtent}
 use Rattle.record.specs.Allocation.{validateAllocationGroup}
 use Rattle.record.specs.Cleanup.{validateCleanupKeyValue}
 use Rattle.record.specs.Workspace.{validateWorkspaceRun}
-
--- a record that counts no blocks
-abbrev pub countsNone : Check → Number
-countsNone Passed = Number.Value 0
-countsNone (Refused e) = Number.Refused e
 
 -- a record of the catalog by its kind: inode 1, directory entry 2, checksum group 4
 unfoldable pub uncountedRecord : List ℕ → List ℕ → ℕ → Validation → Check
@@ -39,11 +33,11 @@ uncountedRecord key value blocks mode =
 
 -- and extent 3
 abbrev pub catalogRecord : List ℕ → List ℕ → ℕ → Validation → Check
-catalogRecord key value blocks mode = cond (eqb (keyKind key) 3) (checkOf (validateExtent key value blocks mode)) (uncountedRecord key value blocks mode)
+catalogRecord key value blocks mode = cond (eqb (keyKind key) 3) (numberCheck (validateExtent key value blocks mode)) (uncountedRecord key value blocks mode)
 
 abbrev pub catalogLeafDemands : List ℕ → List ℕ → ℕ → Validation → List Demand
 catalogLeafDemands key value blocks mode =
-    passing (checkOf (validateCatalogKey key mode))
+    passing (numberCheck (validateCatalogKey key mode))
     ∷ passing (catalogRecord key value blocks mode)
     ∷ []
 
@@ -51,28 +45,22 @@ catalogLeafDemands key value blocks mode =
 abbrev pub catalogBlocks : List ℕ → List ℕ → ℕ
 catalogBlocks key value = cond (eqb (keyKind key) 3) (extentCount value) 0
 
-unfoldable pub catalogLeaf : List ℕ → List ℕ → ℕ → Validation → Number
-catalogLeaf key value blocks mode = outcome (catalogLeafDemands key value blocks mode) Number.Refused (Number.Value (catalogBlocks key value))
-
--- the blocks that a record counts, by the tree's kind
-unfoldable pub validateLeafRecord : TreeKind → List ℕ → List ℕ → ℕ → ℕ → Validation → Number
-validateLeafRecord TreeKind.Catalog key value blocks page mode = catalogLeaf key value blocks mode
-validateLeafRecord TreeKind.Allocation key value blocks page mode = countsNone (validateAllocationGroup key value blocks mode)
-validateLeafRecord TreeKind.Cleanup key value blocks page mode = countsNone (validateCleanupKeyValue key value blocks page mode)
-validateLeafRecord TreeKind.Workspace key value blocks page mode = countsNone (validateWorkspaceRun key value blocks mode)
-
--- the demands of a leaf record, and the blocks that it counts
-abbrev pub leafRules : TreeKind → List ℕ → List ℕ → ℕ → ℕ → Validation → List Demand
-leafRules TreeKind.Catalog key value blocks page mode = catalogLeafDemands key value blocks mode
-leafRules TreeKind.Allocation key value blocks page mode = passing (validateAllocationGroup key value blocks mode) ∷ []
-leafRules TreeKind.Cleanup key value blocks page mode = passing (validateCleanupKeyValue key value blocks page mode) ∷ []
-leafRules TreeKind.Workspace key value blocks page mode = passing (validateWorkspaceRun key value blocks mode) ∷ []
+-- the demands of a leaf record, by the tree's kind, and the blocks that it counts
+abbrev pub leafDemands : TreeKind → List ℕ → List ℕ → ℕ → ℕ → Validation → List Demand
+leafDemands TreeKind.Catalog key value blocks pageGeneration mode = catalogLeafDemands key value blocks mode
+leafDemands TreeKind.Allocation key value blocks pageGeneration mode = passing (validateAllocationGroup key value blocks mode) ∷ []
+leafDemands TreeKind.Cleanup key value blocks pageGeneration mode = passing (validateCleanupKeyValue key value blocks pageGeneration mode) ∷ []
+leafDemands TreeKind.Workspace key value blocks pageGeneration mode = passing (validateWorkspaceRun key value blocks mode) ∷ []
 
 abbrev pub leafBlocks : TreeKind → List ℕ → List ℕ → ℕ
 leafBlocks TreeKind.Catalog key value = catalogBlocks key value
 leafBlocks TreeKind.Allocation key value = 0
 leafBlocks TreeKind.Cleanup key value = 0
 leafBlocks TreeKind.Workspace key value = 0
+
+unfoldable pub validateLeafRecord : TreeKind → List ℕ → List ℕ → ℕ → ℕ → Validation → Number
+validateLeafRecord kind key value blocks pageGeneration mode =
+    outcome (leafDemands kind key value blocks pageGeneration mode) Number.Refused (Number.Value (leafBlocks kind key value))
 
 -- 01, section 5: key length 1..1024, and at most 3,072 bytes with the four of the two lengths
 abbrev pub recordSizeDemands : List ℕ → List ℕ → List Demand

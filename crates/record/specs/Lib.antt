@@ -5,3 +5,4 @@ pub mod Internal
 pub mod Leaf
 pub mod Accept
 pub mod Cases
+pub mod Inside

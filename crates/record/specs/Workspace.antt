@@ -11,7 +11,7 @@ use Rattle.error.specs.Demand.{Demand, _otherwise_, passing, demands}
 use Rattle.error.specs.Reason as reason
 use Rattle.octets.specs.Number.{u32At, bigAt}
 use Rattle.volume.specs.Blocks.{isNonreservedBlock}
-use Rattle.catalog.specs.Numbers.{sumFits}
+use Rattle.volume.specs.Numbers.{sumFits}
 
 abbrev pub runFirst : List ℕ → ℕ
 runFirst key = bigAt key 0

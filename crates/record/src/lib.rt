@@ -1,17 +1,17 @@
 // Records of every tree: allocation groups, cleanup, workspace runs, leaf records and internal records. Document 01, section 5.
 ghost use mathlib.Core.Path.{_≡_};
-ghost use mathlib.Core.Bool.{true};
 ghost use Prim.Native.Nat.{_≤_};
 ghost use lib.ListN.{length};
 ghost use Rattle.error.specs.Demand.{outcome, demands};
-ghost use Rattle.catalog.specs.Numbers.{sumFits, checkOf};
+ghost use Rattle.error.specs.Answer.{numberCheck};
 ghost use Rattle.catalog.specs.Keys.{validateCatalogKey};
 ghost use Rattle.record.specs.declared.Child.{Child as ChildOf};
-ghost use Rattle.record.specs.Allocation.{validateGroupIndex, blockTaken, fullByte, takenBetween, allTaken, reservedTaken, validateAllocationGroup};
-ghost use Rattle.record.specs.Cleanup.{refAt, isRetirementRange, retirementRangeDemands, validateRetirement, isKindRange, detachedOwners, notNewerDemands, validateDetachedTree, validateOrphanMarker, cleanupRecord, isCleanupLength, validateCleanupKeyValue};
+ghost use Rattle.record.specs.Allocation.{validateGroupIndex, blockTaken, takenBetween, allTaken, reservedTaken, validateAllocationGroup};
+ghost use Rattle.record.specs.Inside.{fullByte, detachedOwners, countsNone, catalogLeaf};
+ghost use Rattle.record.specs.Cleanup.{isRetirementRange, retirementRangeDemands, validateRetirement, isKindRange, notNewerDemands, validateDetachedTree, validateOrphanMarker, cleanupRecord, isCleanupLength, validateCleanupKeyValue};
 ghost use Rattle.record.specs.Workspace.{validateWorkspaceKey, runEndDemands, validateWorkspaceRun};
 ghost use Rattle.record.specs.Internal.{allocationInternalKey, retirementKey, cleanupInternalKey, internalKey, childDemands, validateInternalRecord};
-ghost use Rattle.record.specs.Leaf.{countsNone, uncountedRecord, catalogLeaf, validateLeafRecord, leafRecordBlocks};
+ghost use Rattle.record.specs.Leaf.{uncountedRecord, validateLeafRecord, leafRecordBlocks};
 use error::Check;
 use error::Error;
 use error::Number;
@@ -133,16 +133,6 @@ pub fn validate_allocation_group(key: &[u8], value: &[u8], blocks: u64, mode: Va
     Check::Passed
 }
 
-fn read_ref(value: &[u8], at: usize) -> TreeRef
-    requires { ⌜ at ≤ 16 ⌝ }
-    ensures { λ r. ⌜ r ≡ refAt (now (value .entry)) at ⌝ }
-{
-    TreeRef {
-        block: octets::u64_at(value, at),
-        generation: octets::u64_at(value, at + 8),
-    }
-}
-
 fn is_retirement_range(
     generation: u64,
     first: u64,
@@ -151,15 +141,13 @@ fn is_retirement_range(
     blocks: u64,
     page: u64,
 ) -> bool
-    requires { ⌜ sumFits first count ≡ true ⌝ }
     ensures { λ r. ⌜ r ≡ isRetirementRange generation first count reserved blocks page ⌝ }
 {
     (generation != 0)
         & (generation <= page)
         & (count != 0)
         & (reserved == 0)
-        & (volume::is_nonreserved_block(first, blocks)
-            & (first + count <= volume::saturating_sub(blocks, volume::RESERVED_BLOCKS)))
+        & volume::is_nonreserved_run(first, count, blocks)
 }
 
 fn retirement_range(
@@ -173,7 +161,7 @@ fn retirement_range(
 ) -> Check
     ensures { λ r. ⌜ r ≡ demands (retirementRangeDemands generation first count reserved blocks page mode) ⌝ }
 {
-    if !catalog::sum_fits(first, count) {
+    if !volume::sum_fits(first, count) {
         return Check::Refused(error::violation(mode, reason::RETIREMENT_RANGE));
     }
     if !is_retirement_range(generation, first, count, reserved, blocks, page) {
@@ -264,7 +252,7 @@ fn validate_detached_tree(
     if !is_kind_range(value) {
         return Check::Refused(error::violation(mode, reason::INVALID_DETACHED_TREE_KIND_RANGE));
     }
-    not_newer(read_ref(value, 16), blocks, page, mode)
+    not_newer(volume::ref_at(value, 16), blocks, page, mode)
 }
 
 // Check an orphan marker.
@@ -337,7 +325,7 @@ fn run_end(first: u64, count: u64, blocks: u64, mode: Validation) -> Check
     if count == 0 {
         return Check::Refused(error::violation(mode, reason::INVALID_WORKSPACE_RUN_LENGTH));
     }
-    if !catalog::sum_fits(first, count - 1) {
+    if !volume::sum_fits(first, count - 1) {
         return Check::Refused(error::violation(mode, reason::INVALID_WORKSPACE_RUN_LENGTH));
     }
     if !volume::is_nonreserved_block(first + (count - 1), blocks) {
@@ -416,7 +404,7 @@ fn cleanup_internal_key(key: &[u8], blocks: u64, page: u64, mode: Validation) ->
 }
 
 fn catalog_internal_key(key: &[u8], mode: Validation) -> Check
-    ensures { λ r. ⌜ r ≡ checkOf (validateCatalogKey (now (key .entry)) mode) ⌝ }
+    ensures { λ r. ⌜ r ≡ numberCheck (validateCatalogKey (now (key .entry)) mode) ⌝ }
 {
     let kind = catalog::validate_catalog_key(key, mode);
     match kind {
@@ -471,7 +459,13 @@ pub fn validate_internal_record(
             reason::INTERNAL_VALUE_IS_NOT_A_TREE_REFERENCE,
         ));
     }
-    child_of(read_ref(value, 0), kind, blocks, page_generation, mode)
+    child_of(
+        volume::ref_at(value, 0),
+        kind,
+        blocks,
+        page_generation,
+        mode,
+    )
 }
 
 // A record that counts no blocks.

@@ -17,9 +17,9 @@ unfoldable pub decimal : ℕ → List ℕ
 decimal n = leading 19 (n / 10) ++ ((48 + n % 10) ∷ [])
 
 -- a number read digit by digit, from the value of what stands in front
-abbrev pub valueOf : ℕ → List ℕ → ℕ
-valueOf front [] = front
-valueOf front (digit ∷ text) = valueOf (10 * front + (digit - 48)) text
+abbrev pub decimalValue : ℕ → List ℕ → ℕ
+decimalValue front [] = front
+decimalValue front (digit ∷ text) = decimalValue (10 * front + (digit - 48)) text
 
 -- 01, readback: fields are parted by one space
 unfoldable pub field : ℕ → List ℕ

@@ -13,7 +13,7 @@ use Rattle.error.specs.declared.Validation.the-variants.{Input, Disk}
 use Rattle.error.specs.declared.Check.{Check}
 use Rattle.error.specs.declared.Check.the-variants.{Passed, Refused}
 use Rattle.error.specs.Demand.{isPassed, demands, AllHold}
-use Rattle.error.proofs.Chain.{all-hold, all-pass, passed-is, passed-test, by, outcome-by, outcome-holds}
+use Rattle.error.proofs.Exactly.{all-hold, all-pass, passed-is, passed-test, by, outcome-by, outcome-holds}
 use Rattle.error.proofs.Tests.{and-left, and-right, and-both, not-yes}
 use Rattle.octets.specs.Bytes.{part, allZero, sameBytes, startsWith}
 use Rattle.octets.specs.Number.{u32At, u64At}
@@ -22,11 +22,12 @@ use Rattle.octets.proofs.Same.{same-is, same-self}
 use Rattle.crc.specs.Crc.{crc32cWithZero}
 use Rattle.utf8.proofs.Grammar.{utf8-is-grammar}
 use Rattle.volume.specs.Blocks.{isBankRoot}
-use Rattle.volume.specs.References.{validateRootSlot, validateUuid, validateTreeRef, validateWorkspaceRef}
+use Rattle.volume.specs.References.{refAt, validateRootSlot, validateUuid, validateTreeRef, validateWorkspaceRef}
 use Rattle.root.specs.declared.Decoded.{Decoded}
-use Rattle.root.specs.Fields.{groupsOf, generalDemands, checkGeneral, refsDemands, checkRefs, workspaceDemands, checkWorkspace, treesDemands, checkTrees, largestId, numbersDemands, checkNumbers, fieldDemands, validateRootFields}
-use Rattle.root.specs.Root.{magic, labelLength, labelText, labelPadding, refAt, rootOf, placeDemands, checkPlace, isSumRight, areSizesRight, envelopeDemands, checkEnvelope, textDemands, checkText, labelFieldDemands, checkLabel, identityDemands, checkIdentity, blockDemands, checkBlock, rootRefused, rootDemands, rootDecode}
-use Rattle.root.specs.Accept.{LabelAccepted, TreeAccepted, RootAccepted, RootExactly}
+use Rattle.root.specs.Fields.{generalDemands, checkGeneral, refsDemands, checkRefs, workspaceDemands, checkWorkspace, treesDemands, checkTrees, maxId, numbersDemands, checkNumbers, fieldDemands, validateRootFields}
+use Rattle.volume.specs.Groups.{groupsOf}
+use Rattle.root.specs.Root.{magic, labelLength, labelText, labelPadding, rootOf, placeDemands, checkPlace, checksumFits, areSizesRight, envelopeDemands, checkEnvelope, textDemands, checkText, labelFieldDemands, checkLabel, identityDemands, checkIdentity, blockDemands, checkBlock, rootRefused, rootDemands, rootDecode}
+use Rattle.root.specs.Accept.{LabelHolds, TreeHolds, RootHolds, RootExactly}
 use Rattle.root.proofs.LabelAccept.{label-accepted, accepted-label}
 use Rattle.root.proofs.Refs.{zeros-are, zeros-zero, enough-blocks, slot-place, place-slot, uuid-some, some-uuid, tree-holds, holds-tree, workspace-holds, holds-workspace, bank-root, is-bank-root}
 
@@ -83,12 +84,12 @@ module _ (s : List ℕ) (slot blocks : ℕ) where
 
 -- ---- what passes meets the conditions
 
-label-holds : (s : List ℕ) (n : ℕ) (b : Bool) → eqb n 0 ≡ b → isPassed (cond b Passed (checkText (labelText s))) ≡ true → (n ≡ 0) ⊎ LabelAccepted (labelText s)
+label-holds : (s : List ℕ) (n : ℕ) (b : Bool) → eqb n 0 ≡ b → isPassed (cond b Passed (checkText (labelText s))) ≡ true → (n ≡ 0) ⊎ LabelHolds (labelText s)
 unfolding checkText
 label-holds s n true p e = inl (eqb-true n 0 p)
 label-holds s n false p e = inr (label-accepted (labelText s) (all-hold (textDemands (labelText s)) (passed-is (checkText (labelText s)) e) .1 .0))
 
-tree-accepted : (block born generation blocks : ℕ) → (512 ≤ block) × (block < blocks - 512) × (1 ≤ born) → born ≤ generation → TreeAccepted block born generation blocks
+tree-accepted : (block born generation blocks : ℕ) → (512 ≤ block) × (block < blocks - 512) × (1 ≤ born) → born ≤ generation → TreeHolds block born generation blocks
 tree-accepted block born generation blocks t n = record { low = t .0; high = t .1; some = t .2; not-newer = n }
 
 module _ (s : List ℕ) (slot blocks : ℕ) (p : checkBlock s slot blocks ≡ Passed) (q : validateRootFields (rootOf s) slot blocks Disk ≡ Passed) where
@@ -147,11 +148,10 @@ module _ (s : List ℕ) (slot blocks : ℕ) (p : checkBlock s slot blocks ≡ Pa
       (passed-is (checkNumbers (u64At s 112) (u64At s 152) (u64At s 120) blocks Disk) (fields .1 .1 .1 .1 .0))
 
   tree : (offset : ℕ) → isPassed (validateTreeRef (refAt s offset) blocks Disk) ≡ true → (512 ≤ u64At s offset) × (u64At s offset < blocks - 512) × (1 ≤ u64At s (offset + 8))
-  unfolding refAt
   tree offset e = tree-holds (refAt s offset) blocks Disk (passed-is (validateTreeRef (refAt s offset) blocks Disk) e)
 
-  pub root-accepted : RootAccepted s slot blocks
-  unfolding isSumRight areSizesRight labelText labelPadding refAt
+  pub root-accepted : RootHolds s slot blocks
+  unfolding checksumFits areSizesRight labelText labelPadding
   root-accepted =
       let n = labelLength s in
       let size : length s ≡ 4096 = eqb-true (length s) 4096 (place-is .0) in
@@ -203,16 +203,16 @@ module _ (s : List ℕ) (slot blocks : ℕ) (p : checkBlock s slot blocks ≡ Pa
         workspace-some = workspace-holds (refAt s 160) blocks Disk (passed-is (validateWorkspaceRef (refAt s 160) blocks Disk) (workspace-is .0));
         workspace-not-newer = leb-true (u64At s 168) (u64At s 48) (and-right (isBankRoot (u64At s 160) blocks) (leb (u64At s 168) (u64At s 48)) bank);
         cursor = ltb-true (u64At s 176) (groupsOf blocks) (general .1 .1 .1 .1 .0);
-        next-object-least = leb-true 2 (u64At s 112) (and-left (leb 2 (u64At s 112)) (leb (u64At s 112) largestId) object);
-        next-object-most = leb-true (u64At s 112) largestId (and-right (leb 2 (u64At s 112)) (leb (u64At s 112) largestId) object);
-        next-job-least = leb-true 1 (u64At s 152) (and-left (leb 1 (u64At s 152)) (leb (u64At s 152) largestId) job);
-        next-job-most = leb-true (u64At s 152) largestId (and-right (leb 1 (u64At s 152)) (leb (u64At s 152) largestId) job);
+        next-object-least = leb-true 2 (u64At s 112) (and-left (leb 2 (u64At s 112)) (leb (u64At s 112) maxId) object);
+        next-object-most = leb-true (u64At s 112) maxId (and-right (leb 2 (u64At s 112)) (leb (u64At s 112) maxId) object);
+        next-job-least = leb-true 1 (u64At s 152) (and-left (leb 1 (u64At s 152)) (leb (u64At s 152) maxId) job);
+        next-job-most = leb-true (u64At s 152) maxId (and-right (leb 1 (u64At s 152)) (leb (u64At s 152) maxId) job);
         free = let f = leb-true (u64At s 120) (blocks - 1027) (numbers .1 .1 .0) in omega arith;
       }
 
 -- ---- what meets the conditions passes
 
-module _ (s : List ℕ) (slot blocks : ℕ) (r : RootAccepted s slot blocks) where
+module _ (s : List ℕ) (slot blocks : ℕ) (r : RootHolds s slot blocks) where
   place-passes : checkPlace s slot blocks ≡ Passed
   unfolding checkPlace
   place-passes =
@@ -220,14 +220,14 @@ module _ (s : List ℕ) (slot blocks : ℕ) (r : RootAccepted s slot blocks) whe
       (eq-eqb (length s) 4096 (r .size), (le-leb 1024 blocks (r .geometry), (passed-test (validateRootSlot slot blocks Input) (place-slot blocks Input slot (r .geometry) (r .place)), tt)))
 
   envelope-passes : checkEnvelope s ≡ Passed
-  unfolding checkEnvelope isSumRight areSizesRight
+  unfolding checkEnvelope checksumFits areSizesRight
   envelope-passes =
       let front : startsWith s magic ≡ true = ap (λ (x : List ℕ). sameBytes x magic) (r .magic-is) ∙ same-self magic in
       let sizes : areSizesRight s ≡ true = three (eqb (u32At s 12) 4096) (eqb (u32At s 16) 4096) (eqb (u32At s 20) 65536) (eq-eqb (u32At s 12) 4096 (r .record-bytes)) (eq-eqb (u32At s 16) 4096 (r .allocation-bytes)) (eq-eqb (u32At s 20) 65536 (r .unit-bytes)) in
       all-pass (envelopeDemands s)
       (eq-eqb (crc32cWithZero s 4092 4096) (u32At s 4092) (sym (r .checksum)), (front, (eq-eqb (u32At s 8) 1 (r .revision), (sizes, tt))))
 
-  text-passes : (n : ℕ) (b : Bool) → eqb n 0 ≡ b → (n ≡ 0) ⊎ LabelAccepted (labelText s) → isPassed (cond b Passed (checkText (labelText s))) ≡ true
+  text-passes : (n : ℕ) (b : Bool) → eqb n 0 ≡ b → (n ≡ 0) ⊎ LabelHolds (labelText s) → isPassed (cond b Passed (checkText (labelText s))) ≡ true
   unfolding checkText
   text-passes n true p l = refl
   text-passes n false p (inl z) = absurd (eqb-false n 0 p z)
@@ -262,8 +262,7 @@ module _ (s : List ℕ) (slot blocks : ℕ) (r : RootAccepted s slot blocks) whe
       all-pass (generalDemands (part s 24 16) (u64At s 48) (u64At s 56) (u64At s 176) slot blocks Disk)
       (passed-test _ (enough-blocks blocks Disk (r .geometry)), (passed-test _ (place-slot blocks Disk slot (r .geometry) (r .place)), (passed-test _ uuid, (kept, (lt-ltb (u64At s 176) (groupsOf blocks) (r .cursor), tt)))))
 
-  tree-passes : (offset : ℕ) → TreeAccepted (u64At s offset) (u64At s (offset + 8)) (u64At s 48) blocks → validateTreeRef (refAt s offset) blocks Disk ≡ Passed
-  unfolding refAt
+  tree-passes : (offset : ℕ) → TreeHolds (u64At s offset) (u64At s (offset + 8)) (u64At s 48) blocks → validateTreeRef (refAt s offset) blocks Disk ≡ Passed
   tree-passes offset t = holds-tree (refAt s offset) blocks Disk (r .geometry) (t .low) (t .high) (t .some)
 
   refs-pass : checkRefs (refAt s 64) (refAt s 80) (refAt s 96) blocks Disk ≡ Passed
@@ -273,14 +272,14 @@ module _ (s : List ℕ) (slot blocks : ℕ) (r : RootAccepted s slot blocks) whe
       (passed-test _ (tree-passes 64 (r .catalog)), (passed-test _ (tree-passes 80 (r .allocation)), (passed-test _ (tree-passes 96 (r .cleanup)), tt)))
 
   workspace-passes : checkWorkspace (refAt s 160) (u64At s 48) blocks Disk ≡ Passed
-  unfolding checkWorkspace refAt
+  unfolding checkWorkspace
   workspace-passes =
       let bank = and-both (isBankRoot (u64At s 160) blocks) (leb (u64At s 168) (u64At s 48)) (is-bank-root (u64At s 160) blocks (r .geometry) (r .workspace)) (le-leb (u64At s 168) (u64At s 48) (r .workspace-not-newer)) in
       all-pass (workspaceDemands (refAt s 160) (u64At s 48) blocks Disk)
       (passed-test _ (holds-workspace (refAt s 160) blocks Disk (r .geometry) (r .workspace) (r .workspace-some)), (bank, tt))
 
   trees-pass : checkTrees (refAt s 64) (refAt s 80) (refAt s 96) (u64At s 48) Disk ≡ Passed
-  unfolding checkTrees refAt
+  unfolding checkTrees
   trees-pass =
       let far = three (not (eqb (u64At s 64) (u64At s 80))) (not (eqb (u64At s 64) (u64At s 96))) (not (eqb (u64At s 80) (u64At s 96))) (differs (u64At s 64) (u64At s 80) (r .catalog-allocation)) (differs (u64At s 64) (u64At s 96) (r .catalog-cleanup)) (differs (u64At s 80) (u64At s 96) (r .allocation-cleanup)) in
       let old = three (leb (u64At s 72) (u64At s 48)) (leb (u64At s 88) (u64At s 48)) (leb (u64At s 104) (u64At s 48)) (le-leb (u64At s 72) (u64At s 48) (r .catalog .not-newer)) (le-leb (u64At s 88) (u64At s 48) (r .allocation .not-newer)) (le-leb (u64At s 104) (u64At s 48) (r .cleanup .not-newer)) in
@@ -289,8 +288,8 @@ module _ (s : List ℕ) (slot blocks : ℕ) (r : RootAccepted s slot blocks) whe
   numbers-pass : checkNumbers (u64At s 112) (u64At s 152) (u64At s 120) blocks Disk ≡ Passed
   unfolding checkNumbers
   numbers-pass =
-      let object = and-both (leb 2 (u64At s 112)) (leb (u64At s 112) largestId) (le-leb 2 (u64At s 112) (r .next-object-least)) (le-leb (u64At s 112) largestId (r .next-object-most)) in
-      let job = and-both (leb 1 (u64At s 152)) (leb (u64At s 152) largestId) (le-leb 1 (u64At s 152) (r .next-job-least)) (le-leb (u64At s 152) largestId (r .next-job-most)) in
+      let object = and-both (leb 2 (u64At s 112)) (leb (u64At s 112) maxId) (le-leb 2 (u64At s 112) (r .next-object-least)) (le-leb (u64At s 112) maxId (r .next-object-most)) in
+      let job = and-both (leb 1 (u64At s 152)) (leb (u64At s 152) maxId) (le-leb 1 (u64At s 152) (r .next-job-least)) (le-leb (u64At s 152) maxId (r .next-job-most)) in
       all-pass (numbersDemands (u64At s 112) (u64At s 152) (u64At s 120) blocks Disk) (object, (job, (le-leb (u64At s 120) (blocks - 1027) (omega (arith, r .free)), tt)))
 
   fields-pass : validateRootFields (rootOf s) slot blocks Disk ≡ Passed

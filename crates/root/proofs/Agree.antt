@@ -16,10 +16,11 @@ use Rattle.crc.specs.Crc.{crc32c, zeroed, crc32cWithZero}
 use Rattle.crc.proofs.Parts.{parts, zeroed-parts}
 use Rattle.volume.specs.declared.TreeRef.{TreeRef}
 use Rattle.root.specs.declared.Root.{Root}
-use Rattle.root.specs.Label.{labelOf}
-use Rattle.root.specs.Root.{labelLength, labelText, refAt, rootOf, rootDecode}
-use Rattle.root.specs.Accept.{RootAccepted}
-use Rattle.root.specs.Agree.{textOf, LabelsAgree, FieldsAgree, RootsAgree}
+use Rattle.root.specs.Label.{labelOf, textOf}
+use Rattle.volume.specs.References.{refAt}
+use Rattle.root.specs.Root.{labelLength, labelText, rootOf, rootDecode}
+use Rattle.root.specs.Accept.{RootHolds}
+use Rattle.root.specs.Agree.{LabelsAgree, FieldsAgree, RootsAgree}
 use Rattle.root.proofs.Accept.{root-exactly, root-read}
 
 -- ---- labels
@@ -50,7 +51,7 @@ grow s t o w a b = take-add o w s ∙ ap₂ _++_ a b ∙ sym (take-add o w t)
 zeroed-root : (s : List ℕ) → length s ≡ 4096 → zeroed 4092 4096 s ≡ take 4092 s ++ (replicate 4 0 ++ drop 4096 s)
 zeroed-root s e = zeroed-parts 4092 4096 s ∙ ap (λ (n : ℕ). parts (min 4092 (min 4096 n)) (min 4096 n) s) e
 
-module _ (slot b c : ℕ) (s t : List ℕ) (bs : Bytes s) (bt : Bytes t) (g : RootAccepted s slot b) (h : RootAccepted t slot c) where
+module _ (slot b c : ℕ) (s t : List ℕ) (bs : Bytes s) (bt : Bytes t) (g : RootHolds s slot b) (h : RootHolds t slot c) where
   -- a field's bytes follow from its number
   same : (o w : ℕ) → o + w ≤ 4096 → field s o w ≡ field t o w → part s o w ≡ part t o w
   same o w l e = field-same s t o w bs bt (omega (arith, g .size)) (omega (arith, h .size)) e
@@ -88,7 +89,6 @@ module _ (slot b c : ℕ) (s t : List ℕ) (bs : Bytes s) (bt : Bytes t) (g : Ro
 
   module _ (a : FieldsAgree (rootOf s) (rootOf t)) where
     ref-same : (o : ℕ) → o + 16 ≤ 4096 → refAt s o ≡ refAt t o → take o s ≡ take o t → take (o + 16) s ≡ take (o + 16) t
-    unfolding refAt
     ref-same o l e f =
         let first = grow s t o 8 f (same o 8 (omega arith) (ap (λ (r : TreeRef). r .block) e)) in
         let z : o + 8 + 8 ≡ o + 16 = omega arith in

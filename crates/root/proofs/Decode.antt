@@ -1,6 +1,5 @@
 -- The answers of `Root::decode`, and what the checks before the fields tell of the block.
 use mathlib.Core.Path.{_≡_, sym, _∙_}
-use mathlib.Core.Bool.{Bool, false, not}
 use mathlib.Core.List.{List}
 use Prim.Native.Nat.{ℕ, _≤_}
 use borrow.Author.Tests.{eqb-true, leb-true}
@@ -10,13 +9,11 @@ use Rattle.error.specs.declared.Check.{Check}
 use Rattle.error.specs.declared.Check.the-variants.{Passed, Refused}
 use Rattle.error.specs.declared.Validation.the-variants.{Disk}
 use Rattle.error.specs.Demand.{outcome}
-use Rattle.error.proofs.Chain.{all-hold, passed-is}
-use Rattle.error.proofs.Tests.{yes-of, eq-of}
-use Rattle.octets.specs.Bytes.{startsWith}
-use Rattle.octets.specs.Number.{u16At, u32At}
+use Rattle.error.proofs.Exactly.{all-hold, passed-is}
+use Rattle.octets.specs.Number.{u16At}
 use Rattle.root.specs.declared.Root.{Root}
 use Rattle.root.specs.declared.Decoded.{Decoded}
-use Rattle.root.specs.Root.{magic, labelLength, isSumRight, areSizesRight, checkEnvelope, placeDemands, checkPlace, labelFieldDemands, checkLabel, blockDemands, checkBlock, noRoot, rootOf, rootDecode}
+use Rattle.root.specs.Root.{labelLength, placeDemands, checkPlace, labelFieldDemands, checkLabel, blockDemands, checkBlock, noRoot, rootOf, rootDecode}
 use Rattle.root.specs.Fields.{validateRootFields}
 
 -- the three returns of `Root::decode`: b is the answer of the checks on the block, f that of the checks on its fields
@@ -35,13 +32,6 @@ module _ (s : List ℕ) (slot blocks : ℕ) (b : Check) (p : b ≡ checkBlock s 
         → _≡_ {A = Decoded} (record { answer = Passed; root = r }) (rootDecode s slot blocks)
     unfolding rootDecode outcome
     root-decoded k g h = rw (← p, q, ← k, ← g, h)
-
--- ---- the last return of `check_envelope`
-
-pub envelope-passed : (s : List ℕ) (a b d : Bool) (n : ℕ) → a ≡ isSumRight s → not a ≡ false → b ≡ startsWith s magic → not b ≡ false
-    → n ≡ u32At s 8 → n ≡ 1 → d ≡ areSizesRight s → not d ≡ false → Passed ≡ checkEnvelope s
-unfolding checkEnvelope outcome
-envelope-passed s a b d n pa qa pb qb pn qn pd qd = rw (yes-of qa pa, yes-of qb pb, eq-of pn qn, yes-of qd pd)
 
 -- ---- a block of the right length, and a label that is not too long
 

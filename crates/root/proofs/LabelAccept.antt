@@ -20,8 +20,8 @@ use Rattle.utf8.specs.Plain.{allowed, plain}
 use Rattle.utf8.proofs.Grammar.{utf8-is-grammar}
 use Rattle.utf8.proofs.Plain.{plain-char}
 use Rattle.root.specs.Label.{dot, dots, isLabel, labelNew}
-use Rattle.root.specs.Accept.{Holds, MayStand, LabelAccepted, LabelExactly}
-use Rattle.root.specs.Accept.Holds.{here, later}
+use Rattle.root.specs.Accept.{HasCharacter, MayStand, LabelHolds, LabelExactly}
+use Rattle.root.specs.Accept.HasCharacter.{here, later}
 use Rattle.root.proofs.Text.{tests-hold, holds-tests}
 
 -- ---- characters
@@ -56,18 +56,18 @@ stands p m =
     high (yes l) (no h) = and-second (leb 0x7F p) (leb p 0x9F) (lt-leb p 0x9F (omega arith))
     high (no l) d = and-first (leb 0x7F p) (leb p 0x9F) (lt-leb 0x7F p (omega arith))
 
-forth : {p : ℕ} {s : List ℕ} → Holds p s → plain s ≡ true → MayStand p
+forth : {p : ℕ} {s : List ℕ} → HasCharacter p s → plain s ≡ true → MayStand p
 forth (here {c} s k) e = may-stand (number c) (and-left (allowed (number c)) (plain s) (sym (plain-char k s) ∙ e))
 forth (later {p} {c} {s} k h) e = forth h (and-right (allowed (number c)) (plain s) (sym (plain-char k s) ∙ e))
 
-back : {s : List ℕ} → Utf8 s → ((p : ℕ) → Holds p s → MayStand p) → plain s ≡ true
+back : {s : List ℕ} → Utf8 s → ((p : ℕ) → HasCharacter p s → MayStand p) → plain s ≡ true
 unfolding plain read
 back none f = refl
 back (more {c} {s} k r) f = plain-char k s ∙ and-both _ _ (stands (number c) (f (number c) (here s k))) (back r (λ p h. f p (later k h)))
 
 -- ---- the test and the conditions
 
-pub label-accepted : (s : List ℕ) → isLabel s ≡ true → LabelAccepted s
+pub label-accepted : (s : List ℕ) → isLabel s ≡ true → LabelHolds s
 label-accepted s e =
     let t = tests-hold s e in
     record {
@@ -86,7 +86,7 @@ differs s x n = go (sameBytes s x) refl
     go true e = absurd (n (same-is s x e))
     go false e = refl
 
-pub accepted-label : (s : List ℕ) → LabelAccepted s → isLabel s ≡ true
+pub accepted-label : (s : List ℕ) → LabelHolds s → isLabel s ≡ true
 accepted-label s a =
     holds-tests s (
     record {

@@ -1,6 +1,5 @@
 pub mod Text
 pub mod Numbers
-pub mod Passing
 pub mod Decode
 pub mod Choice
 pub mod LabelAccept

@@ -10,7 +10,7 @@ use lib.Dec.{leb, ltb, eqb}
 use lib.ListN.{length, replicate}
 use Rattle.error.specs.declared.Validation.{Validation}
 use Rattle.error.specs.declared.Check.the-variants.{Passed}
-use Rattle.error.proofs.Chain.{all-hold, all-pass, passed-test}
+use Rattle.error.proofs.Exactly.{all-hold, all-pass, passed-test}
 use Rattle.error.proofs.Tests.{and-left, and-right, and-both, or-first, or-second, not-yes}
 use Rattle.octets.specs.Bytes.{allZero}
 use Rattle.volume.specs.declared.TreeRef.{TreeRef}

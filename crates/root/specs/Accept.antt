@@ -9,17 +9,17 @@ use Rattle.error.specs.declared.Check.the-variants.{Passed}
 use Rattle.octets.specs.Bytes.{part}
 use Rattle.octets.specs.Number.{u16At, u32At, u64At}
 use Rattle.crc.specs.Crc.{crc32cWithZero}
+use Rattle.volume.specs.Groups.{groupsOf}
 use Rattle.utf8.specs.Rfc3629.{Utf8-char, Utf8, number}
 use Rattle.root.specs.Label.{dot, dots, labelNew}
-use Rattle.root.specs.Fields.{groupsOf}
 use Rattle.root.specs.Root.{magic, rootDecode}
 
 -- ---- labels
 
 -- a text holds the character of this number (RFC 3629's characters, and section 3's numbers)
-pub data Holds : ℕ → List ℕ → Type 0 where
-  here : {c : List ℕ} (s : List ℕ) → Utf8-char c → Holds (number c) (c ++ s)
-  later : {p : ℕ} {c s : List ℕ} → Utf8-char c → Holds p s → Holds p (c ++ s)
+pub data HasCharacter : ℕ → List ℕ → Type 0 where
+  here : {c : List ℕ} (s : List ℕ) → Utf8-char c → HasCharacter (number c) (c ++ s)
+  later : {p : ℕ} {c s : List ℕ} → Utf8-char c → HasCharacter p s → HasCharacter p (c ++ s)
 
 -- a character that a label may hold: not `/`, not U+0000..U+001F, not U+007F..U+009F
 pub record MayStand (p : ℕ) : Type 0 where
@@ -27,28 +27,28 @@ pub record MayStand (p : ℕ) : Type 0 where
   pub no-low : p ≤ 0x1F → ⊥
   pub no-high : 0x7F ≤ p → p ≤ 0x9F → ⊥
 
-pub record LabelAccepted (text : List ℕ) : Type 0 where
+pub record LabelHolds (text : List ℕ) : Type 0 where
   pub utf8-is : Utf8 text
   pub least : 1 ≤ length text
   pub most : length text ≤ 255
   pub no-dot : text ≡ dot → ⊥
   pub no-dots : text ≡ dots → ⊥
-  pub characters : (p : ℕ) → Holds p text → MayStand p
+  pub characters : (p : ℕ) → HasCharacter p text → MayStand p
 
 -- `Label::new` accepts a text exactly when these hold
 abbrev pub LabelExactly : Type 0
-LabelExactly = (text : List ℕ) → (labelNew text .answer ≡ Passed) ↔ LabelAccepted text
+LabelExactly = (text : List ℕ) → (labelNew text .answer ≡ Passed) ↔ LabelHolds text
 
 -- ---- roots
 
 -- a tree's reference, on a volume of so many blocks and in a root of that generation: a non-reserved block, and a generation
-pub record TreeAccepted (block born generation blocks : ℕ) : Type 0 where
+pub record TreeHolds (block born generation blocks : ℕ) : Type 0 where
   pub low : 512 ≤ block
   pub high : block < blocks - 512
   pub some : 1 ≤ born
   pub not-newer : born ≤ generation
 
-pub record RootAccepted (s : List ℕ) (slot blocks : ℕ) : Type 0 where
+pub record RootHolds (s : List ℕ) (slot blocks : ℕ) : Type 0 where
   -- where it stands
   pub size : length s ≡ 4096
   pub geometry : 1024 ≤ blocks
@@ -63,7 +63,7 @@ pub record RootAccepted (s : List ℕ) (slot blocks : ℕ) : Type 0 where
   -- its label, or none, and zeros after it
   pub label-length : u16At s 184 ≤ 255
   pub padding : part s (186 + u16At s 184) (4092 - (186 + u16At s 184)) ≡ replicate (4092 - (186 + u16At s 184)) 0
-  pub label : (u16At s 184 ≡ 0) ⊎ LabelAccepted (part s 186 (u16At s 184))
+  pub label : (u16At s 184 ≡ 0) ⊎ LabelHolds (part s 186 (u16At s 184))
   -- what this reader supports
   pub features : u64At s 128 ≡ 0
   pub profile : u32At s 136 ≡ 2
@@ -75,9 +75,9 @@ pub record RootAccepted (s : List ℕ) (slot blocks : ℕ) : Type 0 where
   pub uuid : part s 24 16 ≡ replicate 16 0 → ⊥
   pub generation : 1 ≤ u64At s 48
   -- the three trees, in three blocks
-  pub catalog : TreeAccepted (u64At s 64) (u64At s 72) (u64At s 48) blocks
-  pub allocation : TreeAccepted (u64At s 80) (u64At s 88) (u64At s 48) blocks
-  pub cleanup : TreeAccepted (u64At s 96) (u64At s 104) (u64At s 48) blocks
+  pub catalog : TreeHolds (u64At s 64) (u64At s 72) (u64At s 48) blocks
+  pub allocation : TreeHolds (u64At s 80) (u64At s 88) (u64At s 48) blocks
+  pub cleanup : TreeHolds (u64At s 96) (u64At s 104) (u64At s 48) blocks
   pub catalog-allocation : u64At s 64 ≡ u64At s 80 → ⊥
   pub catalog-cleanup : u64At s 64 ≡ u64At s 96 → ⊥
   pub allocation-cleanup : u64At s 80 ≡ u64At s 96 → ⊥
@@ -95,4 +95,4 @@ pub record RootAccepted (s : List ℕ) (slot blocks : ℕ) : Type 0 where
 
 -- `Root::decode` accepts a block exactly when these hold
 abbrev pub RootExactly : Type 0
-RootExactly = (s : List ℕ) (slot blocks : ℕ) → (rootDecode s slot blocks .answer ≡ Passed) ↔ RootAccepted s slot blocks
+RootExactly = (s : List ℕ) (slot blocks : ℕ) → (rootDecode s slot blocks .answer ≡ Passed) ↔ RootHolds s slot blocks

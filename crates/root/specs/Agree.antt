@@ -5,10 +5,9 @@ use mathlib.Core.Path.{_≡_}
 use mathlib.Core.Bool.{true}
 use mathlib.Core.Logic.{_↔_}
 use mathlib.Core.List.{List}
-use lib.ListN.{take}
 use Rattle.error.specs.declared.Check.the-variants.{Passed}
 use Rattle.octets.specs.Bytes.{Bytes}
-use Rattle.root.specs.declared.Label.{Label}
+use Rattle.root.specs.Label.{textOf}
 use Rattle.root.specs.declared.Root.{Root}
 use Rattle.root.specs.Root.{rootDecode}
 
@@ -16,10 +15,6 @@ use Rattle.root.specs.Root.{rootDecode}
 pub record Accepted (s : List ℕ) (slot blocks : ℕ) : Type 0 where
   pub bytes : Bytes s
   pub passed : rootDecode s slot blocks .answer ≡ Passed
-
--- the text of a label: as many bytes as its length says
-abbrev pub textOf : Label → List ℕ
-textOf label = take (label .len) (label .bytes)
 
 -- none only with none; where there are labels, they agree in length and text
 pub record LabelsAgree (a b : Root) : Type 0 where

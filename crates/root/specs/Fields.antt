@@ -1,5 +1,5 @@
 -- The rules of a root's fields (01, section 3: `validate_root_fields`), in the Rust's order.
-use Prim.Native.Nat.{ℕ, _+_, _-_, _/_, _^_}
+use Prim.Native.Nat.{ℕ, _-_, _^_}
 use mathlib.Core.Bool.{Bool, not, _&&_}
 use mathlib.Core.List.{List, [], _∷_}
 use lib.Dec.{leb, ltb, eqb}
@@ -9,18 +9,15 @@ use Rattle.error.specs.Answer.{violationOf}
 use Rattle.error.specs.Demand.{Demand, _otherwise_, passing, demands}
 use Rattle.error.specs.Reason as reason
 use Rattle.volume.specs.Blocks.{isBankRoot}
+use Rattle.volume.specs.Groups.{groupsOf}
 use Rattle.volume.specs.References.{validateBlocks, validateRootSlot, validateUuid, validateTreeRef, validatePageRef}
 use Rattle.volume.specs.declared.TreeKind.{TreeKind}
 use Rattle.volume.specs.declared.TreeRef.{TreeRef}
 use Rattle.root.specs.declared.Root.{Root}
 
--- groups of 16,384 blocks, the last perhaps cut short: blocks / 16,384 rounded up
-unfoldable pub groupsOf : ℕ → ℕ
-groupsOf blocks = (blocks + 16383) / 16384
-
--- the largest object or job number
-abbrev pub largestId : ℕ
-largestId = 2 ^ 63 - 1
+-- 01, section 5: owner numbers run 1..2^63 - 2; the next number is this one when none is left
+abbrev pub maxId : ℕ
+maxId = 2 ^ 63 - 1
 
 -- the volume and the slot, the UUID, the generation and the blocks, and the workspace cursor
 abbrev pub generalDemands : List ℕ → ℕ → ℕ → ℕ → ℕ → ℕ → Validation → List Demand
@@ -76,8 +73,8 @@ checkTrees catalog allocation cleanup generation mode = demands (treesDemands ca
 -- the next object and job numbers, and at most B - 1,027 free blocks: all but the reserved ones and those of the three trees
 abbrev pub numbersDemands : ℕ → ℕ → ℕ → ℕ → Validation → List Demand
 numbersDemands object job free blocks mode =
-    (leb 2 object && leb object largestId) otherwise violationOf mode reason.invalidNextObjectId
-    ∷ (leb 1 job && leb job largestId) otherwise violationOf mode reason.invalidNextCleanupJobId
+    (leb 2 object && leb object maxId) otherwise violationOf mode reason.invalidNextObjectId
+    ∷ (leb 1 job && leb job maxId) otherwise violationOf mode reason.invalidNextCleanupJobId
     ∷ leb free (blocks - 1027) otherwise violationOf mode reason.freeBlockCountExceedsGeometry
     ∷ []
 

@@ -3,7 +3,7 @@ use Prim.Native.Nat.{ℕ}
 use mathlib.Core.Bool.{Bool, not, _&&_}
 use mathlib.Core.List.{List, [], _∷_}
 use lib.Dec.{leb}
-use lib.ListN.{length, replicate}
+use lib.ListN.{length, take, replicate}
 use Rattle.error.specs.declared.Error.{Error}
 use Rattle.error.specs.declared.Error.the-variants.{InvalidInput}
 use Rattle.error.specs.declared.Check.the-variants.{Passed, Refused}
@@ -31,6 +31,10 @@ isLabel text =
     && not (sameBytes text dot)
     && not (sameBytes text dots)
     && plain text
+
+-- the text of a label: as many bytes as its length says
+abbrev pub textOf : Label → List ℕ
+textOf label = take (label .len) (label .bytes)
 
 -- 01, section 3: a `Label` holds zeros beyond its length
 unfoldable pub labelOf : List ℕ → Label

@@ -15,7 +15,7 @@ use Rattle.octets.specs.Bytes.{part, allZero, startsWith}
 use Rattle.octets.specs.Number.{u16At, u32At, u64At}
 use Rattle.crc.specs.Crc.{crc32cWithZero}
 use Rattle.utf8.specs.Reading.{utf8}
-use Rattle.volume.specs.References.{validateRootSlot}
+use Rattle.volume.specs.References.{refAt, validateRootSlot}
 use Rattle.volume.specs.declared.TreeRef.{TreeRef}
 use Rattle.root.specs.Label.{isLabel, labelOf, noLabel}
 use Rattle.root.specs.Fields.{validateRootFields}
@@ -38,10 +38,6 @@ labelText s = part s 186 (labelLength s)
 
 unfoldable pub labelPadding : List ℕ → List ℕ
 labelPadding s = part s (186 + labelLength s) (4092 - (186 + labelLength s))
-
--- a reference: block u64, generation u64
-unfoldable pub refAt : List ℕ → ℕ → TreeRef
-refAt s offset = record { block = u64At s offset; generation = u64At s (offset + 8) }
 
 -- the fields of the root in a block
 unfoldable pub rootOf : List ℕ → Root
@@ -73,8 +69,8 @@ unfoldable pub checkPlace : List ℕ → ℕ → ℕ → Check
 checkPlace s slot blocks = demands (placeDemands s slot blocks)
 
 -- 01, section 1: a block's word is taken with its own four bytes as zero
-unfoldable pub isSumRight : List ℕ → Bool
-isSumRight s = eqb (crc32cWithZero s 4092 4096) (u32At s 4092)
+unfoldable pub checksumFits : List ℕ → Bool
+checksumFits s = eqb (crc32cWithZero s 4092 4096) (u32At s 4092)
 
 -- at 12, 16, 20: 4096, 4096, 65536
 unfoldable pub areSizesRight : List ℕ → Bool
@@ -83,7 +79,7 @@ areSizesRight s = eqb (u32At s 12) 4096 && eqb (u32At s 16) 4096 && eqb (u32At s
 -- checksum at 4092, magic, revision (4), the three sizes
 abbrev pub envelopeDemands : List ℕ → List Demand
 envelopeDemands s =
-    isSumRight s otherwise Corrupt reason.rootChecksum
+    checksumFits s otherwise Corrupt reason.rootChecksum
     ∷ startsWith s magic otherwise Corrupt reason.rootMagic
     ∷ eqb (u32At s 8) 1 otherwise UnsupportedFormat
     ∷ areSizesRight s otherwise Corrupt reason.rootEnvelope

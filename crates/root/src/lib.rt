@@ -5,8 +5,8 @@ ghost use lib.ListN.{length};
 ghost use Rattle.octets.specs.Bytes.{part};
 ghost use Rattle.octets.specs.Number.{u16At};
 ghost use Rattle.root.specs.Label.{isLabel, labelOf, noLabel, labelNew};
-ghost use Rattle.root.specs.Root.{refAt, labelText, rootOf, checkPlace, isSumRight, areSizesRight, checkEnvelope, checkText, checkLabel, checkIdentity, checkBlock, noRoot, rootDecode};
-ghost use Rattle.root.specs.Fields.{groupsOf, apart, upTo, checkGeneral, checkRefs, checkWorkspace, checkTrees, checkNumbers, validateRootFields};
+ghost use Rattle.root.specs.Root.{labelText, rootOf, checkPlace, checksumFits, areSizesRight, checkEnvelope, checkText, checkLabel, checkIdentity, checkBlock, noRoot, rootDecode};
+ghost use Rattle.root.specs.Fields.{apart, upTo, checkGeneral, checkRefs, checkWorkspace, checkTrees, checkNumbers, validateRootFields};
 ghost use Rattle.root.specs.Select.{sameLabel, sameRef, sameRoot, selected, selectionRefused, selectPair, selectRoot, supportedRoot};
 use error::Check;
 use error::Error;
@@ -135,32 +135,32 @@ fn check_place(bytes: &[u8], slot: u64, blocks: u64) -> Check
     volume::validate_root_slot(slot, blocks, Validation::Input)
 }
 
-fn is_sum_right(bytes: &[u8]) -> bool
-    ensures { λ r. ⌜ r ≡ isSumRight (now (bytes .entry)) ⌝ }
+fn checksum_fits(bytes: &[u8]) -> bool
+    ensures { λ r. ⌜ r ≡ checksumFits (now (bytes .entry)) ⌝ }
 {
-    let stored = octets::u32_at(bytes, Root::CHECKSUM);
-    crc::crc32c_with_zero(bytes, Root::CHECKSUM, Root::BYTES) == stored
+    let stored = octets::u32_at(bytes, Root::CHECKSUM_OFFSET);
+    crc::crc32c_with_zero(bytes, Root::CHECKSUM_OFFSET, Root::BYTES) == stored
 }
 
 fn are_sizes_right(bytes: &[u8]) -> bool
     ensures { λ r. ⌜ r ≡ areSizesRight (now (bytes .entry)) ⌝ }
 {
-    let record = octets::u32_at(bytes, Root::RECORD_BYTES);
-    let allocation = octets::u32_at(bytes, Root::ALLOCATION_BYTES);
-    let unit = octets::u32_at(bytes, Root::UNIT_BYTES);
+    let record = octets::u32_at(bytes, Root::RECORD_BYTES_OFFSET);
+    let allocation = octets::u32_at(bytes, Root::ALLOCATION_BYTES_OFFSET);
+    let unit = octets::u32_at(bytes, Root::UNIT_BYTES_OFFSET);
     (record == 4096) & (allocation == 4096) & (unit == 65536)
 }
 
 fn check_envelope(bytes: &[u8]) -> Check
     ensures { λ r. ⌜ r ≡ checkEnvelope (now (bytes .entry)) ⌝ }
 {
-    if !is_sum_right(bytes) {
+    if !checksum_fits(bytes) {
         return Check::Refused(Error::Corrupt(reason::ROOT_CHECKSUM));
     }
     if !octets::starts_with(bytes, &Root::MAGIC) {
         return Check::Refused(Error::Corrupt(reason::ROOT_MAGIC));
     }
-    if octets::u32_at(bytes, Root::REVISION) != Root::SUPPORTED_REVISION {
+    if octets::u32_at(bytes, Root::REVISION_OFFSET) != Root::REVISION {
         return Check::Refused(Error::UnsupportedFormat);
     }
     if !are_sizes_right(bytes) {
@@ -186,39 +186,39 @@ fn check_label(bytes: &[u8]) -> Check
     requires { ⌜ length (now bytes) ≡ 4096 ⌝ }
     ensures { λ r. ⌜ r ≡ checkLabel (now (bytes .entry)) ⌝ }
 {
-    let n = octets::u16_at(bytes, Root::LABEL_LENGTH) as usize;
+    let n = octets::u16_at(bytes, Root::LABEL_LENGTH_OFFSET) as usize;
     if Label::MAX_BYTES < n {
         return Check::Refused(Error::Corrupt(reason::ROOT_LABEL_LENGTH));
     }
-    let end = Root::LABEL + n;
-    if !octets::all_zero(&bytes[end..Root::CHECKSUM]) {
+    let end = Root::LABEL_OFFSET + n;
+    if !octets::all_zero(&bytes[end..Root::CHECKSUM_OFFSET]) {
         return Check::Refused(Error::Corrupt(reason::ROOT_LABEL_PADDING));
     }
     if n == 0 {
         return Check::Passed;
     }
-    check_text(&bytes[Root::LABEL..end])
+    check_text(&bytes[Root::LABEL_OFFSET..end])
 }
 
 fn check_identity(bytes: &[u8], slot: u64, blocks: u64) -> Check
     ensures { λ r. ⌜ r ≡ checkIdentity (now (bytes .entry)) slot blocks ⌝ }
 {
-    if octets::u64_at(bytes, Root::FEATURES) != 0 {
+    if octets::u64_at(bytes, Root::FEATURES_OFFSET) != 0 {
         return Check::Refused(Error::UnsupportedFormat);
     }
-    if octets::u32_at(bytes, Root::PROFILE) != Root::SUPPORTED_PROFILE {
+    if octets::u32_at(bytes, Root::PROFILE_OFFSET) != Root::PROFILE {
         return Check::Refused(Error::UnsupportedFormat);
     }
-    if octets::u32_at(bytes, Root::STATE) != 0 {
+    if octets::u32_at(bytes, Root::STATE_OFFSET) != 0 {
         return Check::Refused(Error::UnsupportedFormat);
     }
-    if octets::u64_at(bytes, Root::SELF_BLOCK) != slot {
+    if octets::u64_at(bytes, Root::SELF_BLOCK_OFFSET) != slot {
         return Check::Refused(Error::Corrupt(reason::ROOT_IDENTITY_OR_GEOMETRY));
     }
-    if octets::u64_at(bytes, Root::BLOCKS) != blocks {
+    if octets::u64_at(bytes, Root::BLOCKS_OFFSET) != blocks {
         return Check::Refused(Error::Corrupt(reason::ROOT_IDENTITY_OR_GEOMETRY));
     }
-    if octets::u64_at(bytes, Root::RESERVE) != Root::MAINTENANCE_RESERVE {
+    if octets::u64_at(bytes, Root::RESERVE_OFFSET) != Root::MAINTENANCE_RESERVE {
         return Check::Refused(Error::Corrupt(reason::ROOT_MAINTENANCE_RESERVE));
     }
     Check::Passed
@@ -243,30 +243,20 @@ fn check_block(bytes: &[u8], slot: u64, blocks: u64) -> Check
     check_identity(bytes, slot, blocks)
 }
 
-fn ref_at(bytes: &[u8], at: usize) -> TreeRef
-    requires { ⌜ at ≤ 4096 ⌝ }
-    ensures { λ r. ⌜ r ≡ refAt (now (bytes .entry)) at ⌝ }
-{
-    TreeRef {
-        block: octets::u64_at(bytes, at),
-        generation: octets::u64_at(bytes, at + 8),
-    }
-}
-
 fn label_text(bytes: &[u8]) -> &[u8]
     requires { ⌜ (length (now bytes) ≡ 4096) × (u16At (now bytes) 184 ≤ 255) ⌝ }
     ensures { λ r. ⌜ now r ≡ labelText (now (bytes .entry)) ⌝ }
 {
-    let n = octets::u16_at(bytes, Root::LABEL_LENGTH) as usize;
-    let end = Root::LABEL + n;
-    &bytes[Root::LABEL..end]
+    let n = octets::u16_at(bytes, Root::LABEL_LENGTH_OFFSET) as usize;
+    let end = Root::LABEL_OFFSET + n;
+    &bytes[Root::LABEL_OFFSET..end]
 }
 
 fn uuid_at(bytes: &[u8]) -> [u8; 16]
     requires { ⌜ length (now bytes) ≡ 4096 ⌝ }
     ensures { λ r. ⌜ r ≡ part (now (bytes .entry)) 24 16 ⌝ }
 {
-    octets::copy16(&bytes[Root::UUID..Root::SELF_BLOCK])
+    octets::copy16(&bytes[Root::UUID_OFFSET..Root::SELF_BLOCK_OFFSET])
 }
 
 fn read_root(bytes: &[u8]) -> Root
@@ -275,35 +265,25 @@ fn read_root(bytes: &[u8]) -> Root
 {
     let label = label_of(label_text(bytes));
     let uuid = uuid_at(bytes);
-    let catalog = ref_at(bytes, Root::CATALOG);
-    let allocation = ref_at(bytes, Root::ALLOCATION);
-    let cleanup = ref_at(bytes, Root::CLEANUP);
-    let workspace = ref_at(bytes, Root::WORKSPACE);
+    let catalog = volume::ref_at(bytes, Root::CATALOG_OFFSET);
+    let allocation = volume::ref_at(bytes, Root::ALLOCATION_OFFSET);
+    let cleanup = volume::ref_at(bytes, Root::CLEANUP_OFFSET);
+    let workspace = volume::ref_at(bytes, Root::WORKSPACE_OFFSET);
     Root {
-        has_label: octets::u16_at(bytes, Root::LABEL_LENGTH) != 0,
+        has_label: octets::u16_at(bytes, Root::LABEL_LENGTH_OFFSET) != 0,
         label,
         uuid,
-        generation: octets::u64_at(bytes, Root::GENERATION),
-        blocks: octets::u64_at(bytes, Root::BLOCKS),
+        generation: octets::u64_at(bytes, Root::GENERATION_OFFSET),
+        blocks: octets::u64_at(bytes, Root::BLOCKS_OFFSET),
         catalog,
         allocation,
         cleanup,
-        next_object: octets::u64_at(bytes, Root::NEXT_OBJECT),
-        free_blocks: octets::u64_at(bytes, Root::FREE_BLOCKS),
-        next_job: octets::u64_at(bytes, Root::NEXT_JOB),
+        next_object: octets::u64_at(bytes, Root::NEXT_OBJECT_OFFSET),
+        free_blocks: octets::u64_at(bytes, Root::FREE_BLOCKS_OFFSET),
+        next_job: octets::u64_at(bytes, Root::NEXT_JOB_OFFSET),
         workspace,
-        workspace_cursor: octets::u64_at(bytes, Root::WORKSPACE_CURSOR),
+        workspace_cursor: octets::u64_at(bytes, Root::WORKSPACE_CURSOR_OFFSET),
     }
-}
-
-// blocks / 16,384, rounded up; it can't overflow.
-fn groups_of(blocks: u64) -> u64
-    ensures { λ r. ⌜ r ≡ groupsOf blocks ⌝ }
-{
-    if blocks % volume::ALLOCATION_GROUP_BLOCKS == 0 {
-        return blocks / volume::ALLOCATION_GROUP_BLOCKS;
-    }
-    blocks / volume::ALLOCATION_GROUP_BLOCKS + 1
 }
 
 fn check_general(
@@ -335,7 +315,7 @@ fn check_general(
     if size != blocks {
         return Check::Refused(violation(mode, reason::INVALID_ROOT_GENERATION_OR_GEOMETRY));
     }
-    if groups_of(blocks) <= cursor {
+    if volume::groups_of(blocks) <= cursor {
         return Check::Refused(violation(mode, reason::WORKSPACE_SCAN_CURSOR_EXCEEDS_GEOMETRY));
     }
     Check::Passed
@@ -420,13 +400,13 @@ fn check_numbers(object: u64, job: u64, free: u64, blocks: u64, mode: Validation
     if object < 2 {
         return Check::Refused(violation(mode, reason::INVALID_NEXT_OBJECT_ID));
     }
-    if Root::MAX_ID < object {
+    if volume::MAX_ID < object {
         return Check::Refused(violation(mode, reason::INVALID_NEXT_OBJECT_ID));
     }
     if job < 1 {
         return Check::Refused(violation(mode, reason::INVALID_NEXT_CLEANUP_JOB_ID));
     }
-    if Root::MAX_ID < job {
+    if volume::MAX_ID < job {
         return Check::Refused(violation(mode, reason::INVALID_NEXT_CLEANUP_JOB_ID));
     }
     if volume::saturating_sub(blocks, volume::RESERVED_TOTAL_BLOCKS + 3) < free {
@@ -483,61 +463,58 @@ impl Root {
 
     pub const MAGIC: [u8; 8] = *b"CFSXROOT";
 
-    pub const SUPPORTED_REVISION: u32 = 1;
+    pub const REVISION: u32 = 1;
 
-    pub const SUPPORTED_PROFILE: u32 = 2;
+    pub const PROFILE: u32 = 2;
 
     pub const MAINTENANCE_RESERVE: u64 = 16384;
 
-    // Object and job numbers end here.
-    pub const MAX_ID: u64 = 0x7FFF_FFFF_FFFF_FFFF;
-
     // Where each field stands.
-    pub const REVISION: usize = 8;
+    pub const REVISION_OFFSET: usize = 8;
 
-    pub const RECORD_BYTES: usize = 12;
+    pub const RECORD_BYTES_OFFSET: usize = 12;
 
-    pub const ALLOCATION_BYTES: usize = 16;
+    pub const ALLOCATION_BYTES_OFFSET: usize = 16;
 
-    pub const UNIT_BYTES: usize = 20;
+    pub const UNIT_BYTES_OFFSET: usize = 20;
 
-    pub const UUID: usize = 24;
+    pub const UUID_OFFSET: usize = 24;
 
-    pub const SELF_BLOCK: usize = 40;
+    pub const SELF_BLOCK_OFFSET: usize = 40;
 
-    pub const GENERATION: usize = 48;
+    pub const GENERATION_OFFSET: usize = 48;
 
-    pub const BLOCKS: usize = 56;
+    pub const BLOCKS_OFFSET: usize = 56;
 
-    pub const CATALOG: usize = 64;
+    pub const CATALOG_OFFSET: usize = 64;
 
-    pub const ALLOCATION: usize = 80;
+    pub const ALLOCATION_OFFSET: usize = 80;
 
-    pub const CLEANUP: usize = 96;
+    pub const CLEANUP_OFFSET: usize = 96;
 
-    pub const NEXT_OBJECT: usize = 112;
+    pub const NEXT_OBJECT_OFFSET: usize = 112;
 
-    pub const FREE_BLOCKS: usize = 120;
+    pub const FREE_BLOCKS_OFFSET: usize = 120;
 
-    pub const FEATURES: usize = 128;
+    pub const FEATURES_OFFSET: usize = 128;
 
-    pub const PROFILE: usize = 136;
+    pub const PROFILE_OFFSET: usize = 136;
 
-    pub const STATE: usize = 140;
+    pub const STATE_OFFSET: usize = 140;
 
-    pub const RESERVE: usize = 144;
+    pub const RESERVE_OFFSET: usize = 144;
 
-    pub const NEXT_JOB: usize = 152;
+    pub const NEXT_JOB_OFFSET: usize = 152;
 
-    pub const WORKSPACE: usize = 160;
+    pub const WORKSPACE_OFFSET: usize = 160;
 
-    pub const WORKSPACE_CURSOR: usize = 176;
+    pub const WORKSPACE_CURSOR_OFFSET: usize = 176;
 
-    pub const LABEL_LENGTH: usize = 184;
+    pub const LABEL_LENGTH_OFFSET: usize = 184;
 
-    pub const LABEL: usize = 186;
+    pub const LABEL_OFFSET: usize = 186;
 
-    pub const CHECKSUM: usize = 4092;
+    pub const CHECKSUM_OFFSET: usize = 4092;
 
     // The root that stands beside a refusal.
     pub fn none() -> Root

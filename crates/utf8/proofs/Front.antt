@@ -8,7 +8,7 @@ use native.Mathlib.Omega.{arith}
 use lib.ListN.{length, getD, take, drop, length-drop, List·getD-eq-default}
 use lib.Seq.{take-all}
 use Rattle.utf8.specs.Reading.{one, two, three, four}
-use Rattle.utf8.specs.Front.{charLen, charLen2, charLen3, charLen4}
+use Rattle.utf8.specs.Inside.{charLen, charLen2, charLen3, charLen4}
 
 -- the part from i to the end
 pub rest : (i : ℕ) (s : List ℕ) → take (length s - i) (drop i s) ≡ drop i s

@@ -13,7 +13,7 @@ use Rattle.utf8.specs.Rfc3629.Utf8-char.{utf8-1, utf8-2, utf8-3-E0, utf8
 use Rattle.utf8.specs.Rfc3629.Utf8.{none, more}
 use Rattle.utf8.specs.Reading.Reading.{bad, char}
 use Rattle.utf8.specs.Reading.{_from_to_, tail, one, two, three, four, Reading, utf8, ends, read, read1, read2, read3}
-use Rattle.utf8.specs.Front.{charLen, charLen2, charLen3, charLen4}
+use Rattle.utf8.specs.Inside.{charLen, charLen2, charLen3, charLen4}
 
 within : (lo hi b : ℕ) → lo ≤ b → b ≤ hi → b from lo to hi ≡ true
 within lo hi b l h = simp (le-leb lo b l, le-leb b hi h)

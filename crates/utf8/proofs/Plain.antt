@@ -10,7 +10,7 @@ use borrow.Author.Tests.{le-leb, lt-leb, leb-true, leb-false, ne-eqb, eqb-true, 
 use Rattle.utf8.specs.Rfc3629.{Byte, Tail, Utf8-char, number}
 use Rattle.utf8.specs.Rfc3629.Utf8-char.{utf8-1, utf8-2, utf8-3-E0, utf8-3-E1-EC, utf8-3-ED, utf8-3-EE-EF, utf8-4-F0, utf8-4-F1-F3, utf8-4-F4}
 use Rattle.utf8.specs.Reading.{read}
-use Rattle.utf8.specs.Front.{charLen, frontNumber}
+use Rattle.utf8.specs.Inside.{charLen, frontNumber}
 use Rattle.utf8.specs.Plain.{allowed, allAllowed, plain}
 use Rattle.utf8.proofs.Front.{rest}
 use Rattle.utf8.proofs.Reading.{read-stop, read-go}

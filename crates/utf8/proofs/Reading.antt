@@ -12,7 +12,7 @@ use mir.Val.{Fits}
 use borrow.Author.Tests.{ne-eqb, ltb-true, not-false}
 use Rattle.utf8.specs.Rfc3629.{number}
 use Rattle.utf8.specs.Reading.{one, two, three, four, Reading, read, read1, read2, read3, ends, utf8}
-use Rattle.utf8.specs.Front.{charLen, charLen2, charLen3, charLen4, frontNumber}
+use Rattle.utf8.specs.Inside.{charLen, charLen2, charLen3, charLen4, frontNumber}
 use Rattle.utf8.specs.Reading.Reading.{bad, char}
 use Rattle.utf8.proofs.Front.{rest, charLen-fits}
 

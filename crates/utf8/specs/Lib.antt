@@ -1,4 +1,4 @@
 pub mod Rfc3629
 pub mod Reading
 pub mod Plain
-pub mod Front
+pub mod Inside

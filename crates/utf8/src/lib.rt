@@ -4,7 +4,7 @@ ghost use mathlib.Core.Bool.{true};
 ghost use Prim.Native.Nat.{_≤_};
 ghost use lib.ListN.{length, getD, drop};
 ghost use Rattle.utf8.specs.Reading.{one, two, three, four, utf8};
-ghost use Rattle.utf8.specs.Front.{charLen, charLen2, charLen3, charLen4, frontNumber};
+ghost use Rattle.utf8.specs.Inside.{charLen, charLen2, charLen3, charLen4, frontNumber};
 ghost use Rattle.utf8.specs.Plain.{allowed, plain};
 
 // The printed alternatives of a character of one, two, three and four bytes.

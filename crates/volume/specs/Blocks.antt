@@ -1,11 +1,15 @@
 -- Volume blocks (01, section 2): which block numbers mean what on a volume of B blocks.
-use Prim.Native.Nat.{ℕ, _-_}
+use Prim.Native.Nat.{ℕ, _+_, _-_}
 use mathlib.Core.Bool.{Bool, _&&_, _||_}
 use lib.Dec.{ltb, leb, eqb}
 
 -- a non-reserved block is 512 up to but not including B - 512, and B is at least 1,024
 unfoldable pub isNonreservedBlock : ℕ → ℕ → Bool
 isNonreservedBlock block blocks = leb 512 block && leb 1024 blocks && ltb block (blocks - 512)
+
+-- so many blocks from the first on: the first is non-reserved, and they end by B - 512
+unfoldable pub isNonreservedRun : ℕ → ℕ → ℕ → Bool
+isNonreservedRun first count blocks = isNonreservedBlock first blocks && leb (first + count) (blocks - 512)
 
 -- bank roots are 32 and B - 96
 unfoldable pub isBankRoot : ℕ → ℕ → Bool

@@ -1,3 +1,4 @@
+pub mod Numbers
 pub mod Blocks
 pub mod References
 pub mod Groups

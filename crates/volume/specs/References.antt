@@ -1,6 +1,6 @@
 -- The checks of block counts, slots and references (01, section 2, and the order of `validate_page_ref` and its like).
-use Prim.Native.Nat.{ℕ}
-use mathlib.Core.Bool.{not, _&&_}
+use Prim.Native.Nat.{ℕ, _+_}
+use mathlib.Core.Bool.{Bool, not, _&&_, cond}
 use mathlib.Core.List.{List, [], _∷_}
 use lib.Dec.{leb, eqb}
 use Rattle.error.specs.declared.Validation.{Validation}
@@ -9,6 +9,7 @@ use Rattle.error.specs.Answer.{violationOf}
 use Rattle.error.specs.Demand.{Demand, _otherwise_, passing, demands}
 use Rattle.error.specs.Reason as reason
 use Rattle.octets.specs.Bytes.{allZero}
+use Rattle.octets.specs.Number.{u64At}
 use Rattle.volume.specs.Blocks.{isNonreservedBlock, isBankBlock, isRootSlot}
 use Rattle.volume.specs.declared.TreeRef.{TreeRef}
 use Rattle.volume.specs.declared.TreeKind.{TreeKind}
@@ -19,6 +20,18 @@ treeKindValue TreeKind.Catalog = 1
 treeKindValue TreeKind.Allocation = 2
 treeKindValue TreeKind.Cleanup = 3
 treeKindValue TreeKind.Workspace = 4
+
+-- 01, section 4: tree kinds are numbered 1 to 4
+abbrev pub isTreeKindValue : ℕ → Bool
+isTreeKindValue n = leb 1 n && leb n 4
+
+-- the tree kind of a number from 1 to 4; of any other it is the workspace, and the programs test first
+unfoldable pub treeKindOf : ℕ → TreeKind
+treeKindOf n = cond (eqb n 1) TreeKind.Catalog (cond (eqb n 2) TreeKind.Allocation (cond (eqb n 3) TreeKind.Cleanup TreeKind.Workspace))
+
+-- 01, section 3: a stored reference is block u64, generation u64
+abbrev pub refAt : List ℕ → ℕ → TreeRef
+refAt s offset = record { block = u64At s offset; generation = u64At s (offset + 8) }
 
 -- B is at least 1,024
 unfoldable pub validateBlocks : ℕ → Validation → Check

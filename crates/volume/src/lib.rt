@@ -1,9 +1,10 @@
 // Volume blocks: which block numbers mean what, and the checks of references. Document 01, section 2.
 ghost use mathlib.Core.Path.{_≡_};
 ghost use Prim.Native.Nat.{_-_, min, max};
-ghost use Rattle.volume.specs.Blocks.{isNonreservedBlock, isBankRoot, isBankBlock, isRootSlot};
-ghost use Rattle.volume.specs.References.{treeKindValue, validateBlocks, validateTreeRef, validateWorkspaceRef, validatePageRef, validateRootSlot, validateUuid};
-ghost use Rattle.volume.specs.Groups.{allocationGroupCount, groupStart, groupEnd, reservedGroupBlocks};
+ghost use Rattle.volume.specs.Numbers.{sumFits};
+ghost use Rattle.volume.specs.Blocks.{isNonreservedBlock, isNonreservedRun, isBankRoot, isBankBlock, isRootSlot};
+ghost use Rattle.volume.specs.References.{treeKindValue, treeKindOf, refAt, validateBlocks, validateTreeRef, validateWorkspaceRef, validatePageRef, validateRootSlot, validateUuid};
+ghost use Rattle.volume.specs.Groups.{groupsOf, allocationGroupCount, groupStart, groupEnd, reservedGroupBlocks};
 use error::Check;
 use error::Error;
 use error::Number;
@@ -15,6 +16,9 @@ pub const RESERVED_BLOCKS: u64 = 512;
 pub const RESERVED_TOTAL_BLOCKS: u64 = 1024;
 
 pub const ALLOCATION_GROUP_BLOCKS: u64 = 16384;
+
+// Object and job numbers end below it: it marks that there are no more.
+pub const MAX_ID: u64 = 0x7FFF_FFFF_FFFF_FFFF;
 
 // A page's block and the generation that it was written in.
 pub struct TreeRef {
@@ -49,6 +53,39 @@ pub fn tree_kind_value(kind: TreeKind) -> u8
     }
 }
 
+// The tree kind of a number that was tested to be one.
+pub fn tree_kind_of(value: u64) -> TreeKind
+    ensures { λ r. ⌜ r ≡ treeKindOf value ⌝ }
+{
+    if value == 1 {
+        return TreeKind::Catalog;
+    }
+    if value == 2 {
+        return TreeKind::Allocation;
+    }
+    if value == 3 {
+        return TreeKind::Cleanup;
+    }
+    TreeKind::Workspace
+}
+
+// The reference that stands at a place of stored bytes.
+pub fn ref_at(bytes: &[u8], at: usize) -> TreeRef
+    ensures { λ r. ⌜ r ≡ refAt (now (bytes .entry)) at ⌝ }
+{
+    TreeRef {
+        block: octets::u64_at(bytes, at),
+        generation: octets::u64_at(octets::tail(bytes, at), 8),
+    }
+}
+
+// Whether a sum stays within 64 bits.
+pub fn sum_fits(a: u64, b: u64) -> bool
+    ensures { λ r. ⌜ r ≡ sumFits a b ⌝ }
+{
+    a <= 0xFFFF_FFFF_FFFF_FFFF - b
+}
+
 // a - b, 0 where b is larger.
 pub fn saturating_sub(a: u64, b: u64) -> u64
     ensures { λ r. ⌜ r ≡ a - b ⌝ }
@@ -77,6 +114,14 @@ pub fn is_nonreserved_block(block: u64, blocks: u64) -> bool
     (RESERVED_BLOCKS <= block)
         & (RESERVED_TOTAL_BLOCKS <= blocks)
         & (block < saturating_sub(blocks, RESERVED_BLOCKS))
+}
+
+// Whether so many blocks from the first on are non-reserved.
+pub fn is_nonreserved_run(first: u64, count: u64, blocks: u64) -> bool
+    ensures { λ r. ⌜ r ≡ isNonreservedRun first count blocks ⌝ }
+{
+    let end = saturating_sub(blocks, RESERVED_BLOCKS);
+    is_nonreserved_block(first, blocks) & (count <= saturating_sub(end, first))
 }
 
 // Whether the block is the root of either workspace bank.
@@ -175,14 +220,24 @@ pub fn validate_uuid(uuid: &[u8; 16], mode: Validation) -> Check
     Check::Passed
 }
 
-// How many allocation groups the blocks fill.
+// blocks / 16,384, rounded up; no sum is made that could pass 64 bits.
+pub fn groups_of(blocks: u64) -> u64
+    ensures { λ r. ⌜ r ≡ groupsOf blocks ⌝ }
+{
+    if blocks % ALLOCATION_GROUP_BLOCKS == 0 {
+        return blocks / ALLOCATION_GROUP_BLOCKS;
+    }
+    blocks / ALLOCATION_GROUP_BLOCKS + 1
+}
+
+// How many allocation groups the blocks fill, refused as in the Rust where its sum would pass 64 bits.
 pub fn allocation_group_count(blocks: u64) -> Number
     ensures { λ r. ⌜ r ≡ allocationGroupCount blocks ⌝ }
 {
-    if 0xFFFF_FFFF_FFFF_FFFF - (ALLOCATION_GROUP_BLOCKS - 1) < blocks {
+    if !sum_fits(blocks, ALLOCATION_GROUP_BLOCKS - 1) {
         return Number::Refused(Error::Corrupt(reason::ALLOCATION_GROUP_RANGE));
     }
-    Number::Value((blocks + (ALLOCATION_GROUP_BLOCKS - 1)) / ALLOCATION_GROUP_BLOCKS)
+    Number::Value(groups_of(blocks))
 }
 
 fn group_start(group: u64) -> u64

@@ -14,15 +14,11 @@ use Rattle.octets.specs.Number.{field, u16At, u64At}
 use Rattle.lookup.specs.Record.{keyLen, valueLen, split, isRecord, sizeOf}
 use Rattle.lookup.specs.Floor.{next}
 use Rattle.lookup.specs.Sorted.{offsetOf}
+use Rattle.octets.proofs.Parts.{field-from}
 use Rattle.lookup.proofs.RecordLaws.{record-is, split-fits}
 use Rattle.walk.specs.Records.{among}
-use Rattle.walk.specs.Children.{storedBlock, storedBlocks, Kept}
+use Rattle.walk.specs.Inside.{storedBlock, storedBlocks, Kept}
 use Rattle.walk.proofs.Joins.{among-more}
-
--- a field of what starts at a place
-pub field-from : (s : List ℕ) (p o w : ℕ) → field (drop p s) o w ≡ field s (p + o) w
-unfolding field
-field-from s p o w = rw (drop-drop o p s)
 
 -- the whole record at a place, by the numbers that stand there
 module _ (s : List ℕ) (p : ℕ) (whole : isRecord (split (drop p s)) ≡ true) where

@@ -10,7 +10,8 @@ use lib.ListN.{length}
 use Rattle.error.specs.declared.Error.{Error}
 use Rattle.error.specs.declared.Validation.{Validation}
 use Rattle.error.proofs.Tests.{and-both}
-use Rattle.error.proofs.Chain.{outcome-holds, chain}
+use Rattle.error.proofs.Exactly.{outcome-holds}
+use Rattle.error.proofs.Chain.{chain}
 use Rattle.octets.specs.Bytes.{part}
 use Rattle.octets.specs.Order.{order, isLess, isGreater}
 use Rattle.octets.specs.declared.Order.{Order}
@@ -18,7 +19,7 @@ use Rattle.octets.specs.declared.Order.the-variants.{Less, Equal, Greater}
 use Rattle.octets.proofs.OrderLaws.{order-mirror}
 use Rattle.lookup.specs.Record.{keyLen, valueLen, keyOf}
 use Rattle.walk.specs.Records.{formDemands}
-use Rattle.walk.specs.Turn.{formOf}
+use Rattle.walk.specs.Inside.{formOf}
 use Rattle.walk.specs.declared.Form.{Form}
 use Rattle.walk.specs.declared.Turn.{Turn}
 

@@ -13,13 +13,13 @@ use Rattle.error.specs.declared.Validation.{Validation}
 use Rattle.error.specs.declared.Check.{Check}
 use Rattle.error.specs.declared.Check.the-variants.{Passed, Refused}
 use Rattle.error.specs.declared.Number.{Number}
-use Rattle.error.specs.Answer.{violationOf, numberCheck, valueOf as numberOf}
+use Rattle.error.specs.Answer.{violationOf, numberCheck, numberOf}
 use Rattle.error.specs.Demand.{outcome, demands}
 use Rattle.error.specs.Reason as reason
-use Rattle.error.proofs.Chain.{all-hold, passed-is, by, outcome-by}
+use Rattle.error.proofs.Exactly.{all-hold, passed-is, by, outcome-by}
 use Rattle.lookup.specs.Record.{keyLen, valueLen, recordLen, keyOf}
 use Rattle.walk.specs.Records.{Own, formCheck, ownAnswer, recordDemands, nextTotal, nextBlocks, walk}
-use Rattle.walk.specs.Turn.{joined, turnOf}
+use Rattle.walk.specs.Inside.{joined, turnOf}
 use Rattle.walk.specs.declared.Turn.{Turn}
 use Rattle.walk.proofs.Turns.{Formed, formed}
 

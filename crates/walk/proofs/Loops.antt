@@ -8,17 +8,17 @@ use native.Mathlib.Omega.{arith}
 use lib.ListN.{length, take, drop, set, length-drop}
 use Rattle.error.specs.declared.Error.{Error}
 use Rattle.error.specs.declared.Number.{Number}
-use Rattle.lookup.proofs.RecordLaws.{split-record, part-from}
-use Rattle.error.specs.Answer.{valueOf as numberOf}
+use Rattle.octets.proofs.Parts.{part-from}
+use Rattle.lookup.proofs.RecordLaws.{split-record}
+use Rattle.error.specs.Answer.{numberOf}
 use Rattle.lookup.specs.Record.{split, isRecord}
 use Rattle.lookup.specs.Floor.{next}
 use Rattle.lookup.specs.Sorted.{offsetOf}
 use Rattle.lookup.specs.declared.Split.the-variants.{Record}
 use Rattle.walk.specs.declared.RecordValidation.{RecordValidation}
 use Rattle.walk.specs.Records.{leafRules, childRules, ownAnswer, walk}
-use Rattle.walk.specs.Turn.{turnOf}
+use Rattle.walk.specs.Inside.{turnOf, storedBlock, storedBlocks, Kept}
 use Rattle.walk.specs.declared.Turn.{Turn}
-use Rattle.walk.specs.Children.{storedBlock, storedBlocks, Kept}
 use Rattle.walk.proofs.Own.{child-sixteen, own-block}
 use Rattle.walk.proofs.Children.{stored-suc, offset-suc, kept-start, kept-more}
 use Rattle.walk.proofs.Going.{Turned, Going, going-start, turn, at-turn, turn-size, own-passed, going-on, going-refused}

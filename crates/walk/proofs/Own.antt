@@ -1,12 +1,12 @@
 -- What the rules of a child's record ask for.
-use mathlib.Core.Path.{_≡_, refl, sym, ap, _∙_}
+use mathlib.Core.Path.{_≡_, refl, ap, _∙_}
 use mathlib.Core.List.{List}
 use Prim.Native.Nat.{ℕ, _+_, _≤_}
 use native.Mathlib.Omega.{arith}
 use lib.ListN.{length, drop, length-take}
 use lib.Seq.{take-take}
 use Rattle.error.specs.declared.Check.the-variants.{Passed}
-use Rattle.error.specs.Answer.{numberCheck, valueOf as numberOf}
+use Rattle.error.specs.Answer.{numberCheck, numberOf}
 use Rattle.octets.specs.Number.{field, u64At}
 use Rattle.lookup.specs.Record.{keyLen, valueLen, valueOf}
 use Rattle.record.specs.declared.Child.{Child}
@@ -14,7 +14,7 @@ use Rattle.record.specs.Internal.{validateInternalRecord}
 use Rattle.record.proofs.Children.{child-sixteen as value-sixteen, child-block}
 use Rattle.walk.specs.declared.RecordValidation.{RecordValidation}
 use Rattle.walk.specs.Records.{Own, childBlock, childRules, ownAnswer}
-use Rattle.walk.specs.Children.{storedBlock, Sixteen}
+use Rattle.walk.specs.Inside.{storedBlock, Sixteen}
 
 pub child-sixteen : (c : RecordValidation) → Sixteen (childRules c)
 child-sixteen c key value e = go (validateInternalRecord (c .kind) key value (c .blocks) (c .«page_generation») (c .mode)) refl e

@@ -13,7 +13,7 @@ use Rattle.error.specs.declared.Check.the-variants.{Passed, Refused}
 use Rattle.error.specs.declared.Number.{Number}
 use Rattle.error.specs.Demand.{isPassed, refusalOf, outcome, demands}
 use Rattle.error.proofs.Tests.{and-left, and-right}
-use Rattle.error.proofs.Chain.{all-hold, by, outcome-by}
+use Rattle.error.proofs.Exactly.{all-hold, by, outcome-by}
 use Rattle.octets.specs.Bytes.{part}
 use Rattle.octets.specs.Order.{order}
 use Rattle.octets.specs.declared.Order.the-variants.{Less}
@@ -23,7 +23,7 @@ use Rattle.record.specs.declared.Child.{Child}
 use Rattle.record.specs.Internal.{validateInternalRecord}
 use Rattle.walk.specs.declared.RecordValidation.{RecordValidation}
 use Rattle.walk.specs.Records.{Own, childBlock, childRules, formDemands, formCheck, ownAnswer, joinDemands, joinCheck}
-use Rattle.walk.specs.Turn.{formOf, joined, joinOf, turnOf}
+use Rattle.walk.specs.Inside.{formOf, joined, joinOf, turnOf}
 use Rattle.walk.specs.declared.Form.{Form}
 use Rattle.walk.specs.declared.Turn.{Turn}
 use Rattle.walk.proofs.Forms.{less-of}

@@ -5,23 +5,24 @@ use mathlib.Core.Bool.{Bool, true, false, not}
 use mathlib.Core.List.{List, [], _∷_, _++_, append-assoc}
 use Prim.Native.Nat.{ℕ, zero, suc, _+_, _-_, _*_, _/_, _^_, _≤_, _<_}
 use native.Mathlib.Omega.{arith}
-use borrow.Author.Tests.{le-leb, leb-true, lt-ltb, ltb-true, eq-eqb, eqb-true, not-true}
+use borrow.Author.Tests.{le-leb, leb-true, eq-eqb, eqb-true, not-true}
 use lib.Dec.{leb, eqb}
 use lib.ListN.{length, take, drop, length-drop, length-append, length-take, take-append-drop}
-use lib.Seq.{take-add, getD-drop, take-append-seam, drop-append-seam}
+use lib.Seq.{take-add, take-append-seam, drop-append-seam}
 use Rattle.error.specs.declared.Validation.{Validation}
 use Rattle.error.specs.declared.Check.{Check}
 use Rattle.error.specs.declared.Check.the-variants.{Passed, Refused}
 use Rattle.error.specs.declared.Number.{Number}
-use Rattle.error.specs.Answer.{violationOf, numberCheck, valueOf as numberOf}
+use Rattle.error.specs.Answer.{violationOf, numberCheck, numberOf}
 use Rattle.error.specs.Demand.{Demand, _otherwise_, outcome, demands, AllHold}
 use Rattle.error.specs.Reason as reason
 use Rattle.error.proofs.Tests.{and-both}
-use Rattle.error.proofs.Chain.{all-hold, all-pass, passed-is, passed-test, by, outcome-by, outcome-holds}
+use Rattle.error.proofs.Exactly.{all-hold, all-pass, passed-is, passed-test, by, outcome-by, outcome-holds}
 use Rattle.octets.specs.Bytes.{Bytes}
-use Rattle.octets.proofs.Digits.{bytes-part}
+use Rattle.octets.proofs.Digits.{bytes-part, bytes-drop}
 use Rattle.octets.specs.Order.{order, isLess}
 use Rattle.octets.specs.declared.Order.the-variants.{Less}
+use Rattle.volume.specs.Numbers.{largest}
 use Rattle.lookup.specs.Record.{keyLen, valueLen, recordLen, keyOf, valueOf}
 use Rattle.walk.specs.Records.{Own, formDemands, formCheck, among, nextTotal, nextBlocks, joinDemands, joinCheck, ownAnswer, recordDemands, walk, sizeDemands, records}
 use Rattle.walk.specs.Entries.{Entry, stored, laid, Increasing, Among, Fit, numbers, sum, Fresh, Walked, WalkedExactly}
@@ -49,9 +50,6 @@ record From (leaf : Bool) (own : Own) (rest : List ℕ) (left n : ℕ) (previous
   internal-total : leaf ≡ false → answer ≡ total
   distinct : leaf ≡ false → Fresh blocks (numbers own entries)
 
-pub bytes-drop : (s : List ℕ) (n : ℕ) → Bytes s → Bytes (drop n s)
-bytes-drop s n b = record { below = λ i. omega (arith, getD-drop n s i 0, b .below (n + i)) }
-
 none-left : (leaf : Bool) (own : Own) (rest : List ℕ) (left : ℕ) (previous : List ℕ) (total : ℕ) (blocks : List ℕ) (answer : ℕ) → left ≡ 0 → total ≡ answer → From leaf own rest left 0 previous total blocks answer
 none-left leaf own rest left previous total blocks answer z t = record {
   entries = [];
@@ -73,7 +71,7 @@ fresh-block mode total blocks n e = not-true (among n blocks) (all-hold (joinDem
 
 small-total : (mode : Validation) (total : ℕ) (blocks : List ℕ) (n : ℕ) → joinCheck true total blocks n mode ≡ Passed → total + n < 2 ^ 64
 unfolding joinCheck
-small-total mode total blocks n e = ltb-true (total + n) (2 ^ 64) (all-hold (joinDemands true total blocks n mode) e .0)
+small-total mode total blocks n e = omega (arith, leb-true (total + n) largest (all-hold (joinDemands true total blocks n mode) e .0))
 
 members : (f : Entry → Type 0) (e : Entry) (es : List Entry) → f e → ((x : Entry) → Among x es → f x) → (x : Entry) → Among x (e ∷ es) → f x
 members f e es h k x (inl p) = subst f (sym p) h
@@ -218,7 +216,7 @@ module _ (e : Entry) (es : List Entry) (rest : List ℕ) (left : ℕ) (l : left 
 
 join-leaf : (mode : Validation) (total : ℕ) (blocks : List ℕ) (n : ℕ) → total + n < 2 ^ 64 → joinCheck true total blocks n mode ≡ Passed
 unfolding joinCheck
-join-leaf mode total blocks n h = all-pass (joinDemands true total blocks n mode) (lt-ltb (total + n) (2 ^ 64) h, tt)
+join-leaf mode total blocks n h = all-pass (joinDemands true total blocks n mode) (le-leb (total + n) largest (omega arith), tt)
 
 join-child : (mode : Validation) (total : ℕ) (blocks : List ℕ) (n : ℕ) → among n blocks ≡ false → joinCheck false total blocks n mode ≡ Passed
 unfolding joinCheck

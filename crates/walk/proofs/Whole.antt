@@ -6,7 +6,7 @@ use Prim.Native.Nat.{ℕ, _/_, _≤_}
 use borrow.Author.Tests.{le-leb, eq-eqb, ne-eqb}
 use lib.ListN.{length}
 use Rattle.error.specs.declared.Number.{Number}
-use Rattle.error.proofs.Chain.{outcome-holds}
+use Rattle.error.proofs.Exactly.{outcome-holds}
 use Rattle.walk.specs.declared.RecordValidation.{RecordValidation}
 use Rattle.walk.specs.Records.{Own, leafRules, childRules, walk, sizeDemands, records, validateRecords}
 

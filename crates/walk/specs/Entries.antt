@@ -1,4 +1,4 @@
--- A payload read plainly: a list of keys and values.
+-- A payload read plainly (01, section 5): a list of keys and values.
 use Prim.Native.Nat.{ℕ, _+_, _/_, _%_, _^_, _≤_, _<_}
 use mathlib.Core.Path.{_≡_}
 use mathlib.Core.Logic.{_⊎_, _↔_}
@@ -8,7 +8,7 @@ use lib.ListN.{length, take}
 use Rattle.error.specs.declared.Validation.{Validation}
 use Rattle.error.specs.declared.Check.the-variants.{Passed}
 use Rattle.error.specs.declared.Number.{Number}
-use Rattle.error.specs.Answer.{numberCheck, valueOf as numberOf}
+use Rattle.error.specs.Answer.{numberCheck, numberOf}
 use Rattle.octets.specs.Bytes.{Bytes}
 use Rattle.octets.specs.Order.{order}
 use Rattle.octets.specs.declared.Order.the-variants.{Less}

@@ -4,7 +4,7 @@ use mathlib.Core.Bool.{cond}
 use mathlib.Core.List.{List}
 use lib.ListN.{length, drop}
 use Rattle.octets.specs.Bytes.{part}
-use Rattle.lookup.specs.Floor.{floorOf, answerOf, stepOf}
+use Rattle.lookup.specs.Floor.{answerAt, stepOf}
 use Rattle.lookup.specs.declared.Answer.{Answer}
 use Rattle.lookup.specs.declared.Step.{Step}
 
@@ -12,13 +12,14 @@ pub data Finding : Type 0 where
   nothing : Finding
   found : (key value : List ℕ) → Finding
 
--- the first of so many records at the front of `rest`
+-- the record at a step's places
 abbrev pub stepFound : List ℕ → Step → Finding
 stepFound rest s =
     cond (s .found)
     (found (part rest (s .«key_start») (s .«key_end» - s .«key_start»)) (part rest (s .«key_end») (s .«value_end» - s .«key_end»)))
     nothing
 
+-- the first of so many records at the front of `rest`
 abbrev pub firstOf : List ℕ → ℕ → Finding
 firstOf rest remaining = stepFound rest (stepOf rest remaining)
 
@@ -28,4 +29,4 @@ answerFound payload a = firstOf (drop (a .from) payload) (a .remaining)
 
 -- the lookup of a key in a payload of so many records, by a scratch
 abbrev pub lookupIn : List ℕ → ℕ → List ℕ → List ℕ → Finding
-lookupIn payload count key scratch = answerFound payload (answerOf (length payload) count (floorOf payload count key (length scratch)))
+lookupIn payload count key scratch = answerFound payload (answerAt payload count key (length scratch))

@@ -1,6 +1,5 @@
 pub mod Records
-pub mod Turn
-pub mod Children
 pub mod Entries
 pub mod Found
 pub mod Agree
+pub mod Inside

@@ -1,18 +1,20 @@
 -- The walk over a page's records (01, section 5). It goes record by record: `rest` is the block from the next record to the block's end, of which
 -- the first `left` bytes belong to the payload. A record's two lengths are read even where they lie behind the payload's end.
-use Prim.Native.Nat.{ℕ, zero, suc, _+_, _-_, _/_, _^_}
+use Prim.Native.Nat.{ℕ, zero, suc, _+_, _-_, _/_}
 use mathlib.Core.Bool.{Bool, false, not, _&&_, _||_, cond}
 use mathlib.Core.List.{List, [], _∷_, _++_}
-use lib.Dec.{ltb, leb, eqb}
+use lib.Dec.{leb, eqb}
 use lib.ListN.{length, drop}
 use Rattle.error.specs.declared.Error.the-variants.{Corrupt}
 use Rattle.error.specs.declared.Validation.{Validation}
 use Rattle.error.specs.declared.Check.{Check}
 use Rattle.error.specs.declared.Number.{Number}
-use Rattle.error.specs.Answer.{violationOf, numberCheck, valueOf as numberOf}
+use Rattle.error.specs.Answer.{violationOf, numberCheck, numberOf}
 use Rattle.error.specs.Demand.{Demand, _otherwise_, passing, outcome, demands}
 use Rattle.error.specs.Reason as reason
+use Rattle.octets.specs.Number.{within}
 use Rattle.octets.specs.Order.{order, isLess}
+use Rattle.volume.specs.Numbers.{sumFits}
 use Rattle.lookup.specs.Record.{keyLen, recordLen, keyOf, valueOf}
 use Rattle.record.specs.declared.Child.{Child}
 use Rattle.record.specs.Internal.{validateInternalRecord}
@@ -25,8 +27,8 @@ use Rattle.walk.specs.declared.RecordValidation.{RecordValidation}
 -- empty key, which is below every key
 abbrev pub formDemands : List ℕ → ℕ → List ℕ → Validation → List Demand
 formDemands rest left previous mode =
-    leb 2 (length rest) otherwise Corrupt reason.recordKeyLength
-    ∷ leb 4 (length rest) otherwise Corrupt reason.recordValueLength
+    within rest 0 2 otherwise Corrupt reason.recordKeyLength
+    ∷ within rest 2 2 otherwise Corrupt reason.recordValueLength
     ∷ (leb 1 (keyLen rest) && leb (keyLen rest) 1024) otherwise violationOf mode reason.invalidRecordKeyLength
     ∷ leb (recordLen rest) 3072 otherwise violationOf mode reason.recordIsTooLarge
     ∷ leb (recordLen rest) left otherwise violationOf mode reason.recordExceedsPayload
@@ -60,22 +62,22 @@ abbrev pub among : ℕ → List ℕ → Bool
 among n [] = false
 among n (m ∷ ms) = eqb m n || among n ms
 
--- its number beside those of the earlier records: in a leaf the total stays below 2^64, in an internal page no two children share a block
+-- its number beside those of the earlier records: in a leaf the total stays within 64 bits, in an internal page no two children share a block
 abbrev pub joinDemands : Bool → ℕ → List ℕ → ℕ → Validation → List Demand
-joinDemands leaf total blocks n mode =
+joinDemands leaf total seen n mode =
     cond leaf
-    (ltb (total + n) (2 ^ 64) otherwise violationOf mode reason.leafDataBlockTotalOverflow ∷ [])
-    (not (among n blocks) otherwise violationOf mode reason.internalChildrenShareABlock ∷ [])
+    (sumFits total n otherwise violationOf mode reason.leafDataBlockTotalOverflow ∷ [])
+    (not (among n seen) otherwise violationOf mode reason.internalChildrenShareABlock ∷ [])
 
 unfoldable pub joinCheck : Bool → ℕ → List ℕ → ℕ → Validation → Check
-joinCheck leaf total blocks n mode = demands (joinDemands leaf total blocks n mode)
+joinCheck leaf total seen n mode = demands (joinDemands leaf total seen n mode)
 
 -- all checks of a record
 abbrev pub recordDemands : Bool → Validation → Own → List ℕ → ℕ → List ℕ → ℕ → List ℕ → List Demand
-recordDemands leaf mode own rest left previous total blocks =
+recordDemands leaf mode own rest left previous total seen =
     passing (formCheck rest left previous mode)
     ∷ passing (numberCheck (ownAnswer own rest))
-    ∷ passing (joinCheck leaf total blocks (numberOf (ownAnswer own rest)) mode)
+    ∷ passing (joinCheck leaf total seen (numberOf (ownAnswer own rest)) mode)
     ∷ []
 
 -- ---- the walk
@@ -84,17 +86,17 @@ abbrev pub nextTotal : Bool → ℕ → ℕ → ℕ
 nextTotal leaf total n = cond leaf (total + n) total
 
 abbrev pub nextBlocks : Bool → List ℕ → ℕ → List ℕ
-nextBlocks leaf blocks n = cond leaf blocks (blocks ++ (n ∷ []))
+nextBlocks leaf seen n = cond leaf seen (seen ++ (n ∷ []))
 
--- so many records are to come; `total` is the sum of a leaf's counts so far, and `blocks` are the children's blocks of an internal page so far. At the
+-- so many records are to come; `total` is the sum of a leaf's counts so far, and `seen` are the children's blocks of an internal page so far. At the
 -- end nothing of the payload is left, and the answer is the total
 unfoldable pub walk : Bool → Validation → Own → ℕ → List ℕ → ℕ → List ℕ → ℕ → List ℕ → Number
-walk leaf mode own zero rest left previous total blocks =
+walk leaf mode own zero rest left previous total seen =
     outcome (eqb left 0 otherwise violationOf mode reason.payloadHasUnconsumedBytes ∷ []) Number.Refused (Number.Value total)
-walk leaf mode own (suc n) rest left previous total blocks =
-    outcome (recordDemands leaf mode own rest left previous total blocks) Number.Refused
+walk leaf mode own (suc n) rest left previous total seen =
+    outcome (recordDemands leaf mode own rest left previous total seen) Number.Refused
     (walk leaf mode own n (drop (recordLen rest) rest) (left - recordLen rest) (keyOf rest)
-    (nextTotal leaf total (numberOf (ownAnswer own rest))) (nextBlocks leaf blocks (numberOf (ownAnswer own rest))))
+    (nextTotal leaf total (numberOf (ownAnswer own rest))) (nextBlocks leaf seen (numberOf (ownAnswer own rest))))
 
 -- the count is tested against the payload's length, and that against the bytes; then the records
 abbrev pub sizeDemands : List ℕ → ℕ → ℕ → Validation → List Demand

@@ -5,8 +5,7 @@ ghost use mathlib.Core.List.{[]};
 ghost use Prim.Native.Nat.{_≤_};
 ghost use lib.ListN.{length, take};
 ghost use Rattle.walk.specs.Records.{leafRules, childRules, among, walk, validateRecords};
-ghost use Rattle.walk.specs.Turn.{formOf, joinOf, turnOf};
-ghost use Rattle.walk.specs.Children.{storedBlocks, Whole, Kept};
+ghost use Rattle.walk.specs.Inside.{formOf, joinOf, turnOf, storedBlocks, Whole, Kept};
 use error::Error;
 use error::Number;
 use error::Validation;
@@ -59,7 +58,7 @@ fn record_form(rest: &[u8], left: usize, previous: &[u8], mode: Validation) -> F
         return Form::Refused(error::violation(mode, reason::INVALID_RECORD_KEY_LENGTH));
     }
     let end = 4 + key_len;
-    if 3072 < end + value_len {
+    if record::MAX_RECORD_BYTES < end + value_len {
         return Form::Refused(error::violation(mode, reason::RECORD_IS_TOO_LARGE));
     }
     if left < end + value_len {
@@ -118,7 +117,7 @@ fn is_shared(seen: &[u64], rest: &[u8], n: usize, block: u64) -> bool
 fn join_leaf(key_len: usize, value_len: usize, total: u64, number: u64, mode: Validation) -> Turn
     ensures { λ r. ⌜ r ≡ joinOf true «key_len» «value_len» total [] number mode ⌝ }
 {
-    if 0xFFFF_FFFF_FFFF_FFFF - total < number {
+    if !volume::sum_fits(total, number) {
         return Turn::Refused(error::violation(mode, reason::LEAF_DATA_BLOCK_TOTAL_OVERFLOW));
     }
     let number = total + number;
@@ -263,7 +262,8 @@ fn walk_leaf(rest: &[u8], payload: usize, count: usize, context: RecordValidatio
     Number::Value(total)
 }
 
-// The walk over an internal page's records. The children's blocks so far stand in `seen`: a page of 4,096 bytes has room for 191.
+// The walk over an internal page's records. The children's blocks so far stand in `seen`: of a page's payload, whose children take 28
+// bytes or more, it has room for all.
 fn walk_children(rest: &[u8], payload: usize, count: usize, context: RecordValidation) -> Number
     requires { ⌜ payload ≤ length (now rest) ⌝ }
     ensures { λ r. ⌜ r ≡ walk false (context .mode) (childRules context) count (now (rest .entry)) payload [] 0 [] ⌝ }

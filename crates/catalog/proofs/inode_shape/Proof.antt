@@ -1,4 +1,4 @@
-use Rattle.catalog.specs.Inode.{inodeShape}
+use Rattle.catalog.specs.Inside.{inodeShape}
 use Rattle.error.proofs.Chain.{chain}
 use Rattle.catalog.proofs.Fields.{fields}
 use borrow.Author.Needs.{needs}

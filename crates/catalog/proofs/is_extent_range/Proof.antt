@@ -1,5 +1,5 @@
 use Rattle.catalog.specs.Extent.{isExtentRange}
-use Rattle.catalog.proofs.Sums.{fits-sum}
+use Rattle.volume.proofs.Sums.{fits-sum}
 use borrow.Author.Needs.{needs}
 use Rattle.catalog.proofs.is_extent_range.Statement.{statement}
 use Rattle.catalog.proofs.is_extent_range.Tie as tie
@@ -7,19 +7,10 @@ use Rattle.catalog.proofs.is_extent_range.Tie as tie
 add-result : tie.Need-add-result
 add-result c = search fits-sum
 
-add-result-2 : tie.Need-add-result-2
-add-result-2 c = search fits-sum
-
 returns : tie.Need-returns
 unfolding isExtentRange
-returns c = simp (c .saturating-sub .ensures, c .before .is-nonreserved-block .ensures)
+returns c = simp (c .is-nonreserved-run .ensures)
 
 pub is-extent-range-spec : {M : Type 1} → statement M
 is-extent-range-spec =
-    tie.close
-    (tie.spec
-    add-result
-    (search needs)
-    add-result-2
-    (search needs)
-    returns)
+    tie.close (tie.spec add-result (search needs) returns)

@@ -1,5 +1,5 @@
 -- Invariant: the register after all the zeros is that after those that are left, from `r`.
-use mathlib.Core.Path.{_≡_, refl, sym, _∙_}
+use mathlib.Core.Path.{_≡_, refl}
 use lib.ListN.{replicate}
 use borrow.Author.Needs.{needs}
 use Rattle.crc.specs.Crc.{extend}

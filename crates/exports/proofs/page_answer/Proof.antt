@@ -8,7 +8,7 @@ returns : tie.Need-returns
 unfolding pageAnswer
 returns c =
     let a = c .before .before .before .before .before .before .before .before .args in
-    rw (c .page-words .ensures, c .before .decode-page .ensures, c .before .before .before .expected-of .ensures, c .before .before .before .before .kind-of .ensures, c .before .before .before .before .before .copy16 .ensures, padded-whole 16 (a .uuid .now) (search needs))
+    rw (c .page-words .ensures, c .before .page-answer .ensures, c .before .before .before .expected-of .ensures, c .before .before .before .before .tree-kind-of .ensures, c .before .before .before .before .before .copy16 .ensures, padded-whole 16 (a .uuid .now) (search needs))
 
 pub page-answer-spec : {M : Type 1} → statement M
 page-answer-spec =
@@ -16,6 +16,7 @@ page-answer-spec =
     (tie.spec
     (search needs)
     (search needs)
+    (λ c. search needs)
     (search needs)
     (search needs)
     (search needs)

@@ -2,6 +2,9 @@ use borrow.Author.Needs.{needs}
 use Rattle.exports.proofs.slot_words.Statement.{statement}
 use Rattle.exports.proofs.slot_words.Tie as tie
 
+returns : tie.Need-returns
+returns c = rw (c .enum-told .given .1)
+
 returns-2 : tie.Need-returns-2
 returns-2 c = rw (c .before .slot .given .1)
 
@@ -20,6 +23,6 @@ slot-words-spec =
     (λ c. search needs)
     (search needs)
     (λ c. search needs)
-    (λ c. search needs)
+    returns
     returns-2
     returns-3)

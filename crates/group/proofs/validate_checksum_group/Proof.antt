@@ -1,4 +1,5 @@
-use Rattle.error.proofs.Chain.{chain, all-pass}
+use Rattle.error.proofs.Exactly.{all-pass}
+use Rattle.error.proofs.Chain.{chain}
 use Rattle.group.specs.Group.{validateChecksumGroup}
 use Rattle.group.proofs.Compact.{sized-of}
 use mathlib.Core.Path.{sym}

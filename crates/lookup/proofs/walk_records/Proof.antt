@@ -10,7 +10,8 @@ use Rattle.lookup.specs.Record.{look}
 use Rattle.lookup.specs.Floor.{walk}
 use Rattle.lookup.specs.declared.Floor.the-variants.{Nothing}
 use Rattle.lookup.specs.declared.Look.the-variants.{Above, Size}
-use Rattle.lookup.proofs.RecordLaws.{look-is, part-from}
+use Rattle.octets.proofs.Parts.{part-from}
+use Rattle.lookup.proofs.RecordLaws.{look-is}
 use Rattle.lookup.proofs.WalkLaws.{walk-step, walk-stop, walk-end}
 use Rattle.lookup.proofs.walk_records.Statement.{statement}
 use Rattle.lookup.proofs.walk_records.Tie as tie

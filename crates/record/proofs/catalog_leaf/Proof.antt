@@ -1,4 +1,4 @@
-use Rattle.record.specs.Leaf.{catalogLeaf}
+use Rattle.record.specs.Inside.{catalogLeaf}
 use Rattle.error.proofs.Chain.{chain}
 use Rattle.record.proofs.Fields.{fields}
 use Rattle.record.proofs.ByKind.{leaf-extent, leaf-other}

@@ -1,5 +1,5 @@
 use Rattle.record.proofs.ByKind.{owners-end}
-use Rattle.record.specs.Cleanup.{detachedOwners}
+use Rattle.record.specs.Inside.{detachedOwners}
 use Rattle.error.proofs.Chain.{chain}
 use Rattle.record.proofs.Fields.{fields}
 use borrow.Author.Needs.{needs}

@@ -1,15 +1,11 @@
 use Rattle.error.proofs.Chain.{chain}
 use Rattle.record.proofs.Fields.{fields}
-use Rattle.error.proofs.Tests.{tests}
 use borrow.Author.Needs.{needs}
 use Rattle.record.proofs.retirement_range.Statement.{statement}
 use Rattle.record.proofs.retirement_range.Tie as tie
 
 returns : tie.Need-returns
 returns c = search (fields, chain) depth 12
-
-is-retirement-range-requires : tie.Need-is-retirement-range-requires
-is-retirement-range-requires c κs = search tests
 
 returns-2 : tie.Need-returns-2
 returns-2 c = search (fields, chain) depth 12
@@ -24,7 +20,7 @@ retirement-range-spec =
     (search needs)
     (search needs)
     returns
-    is-retirement-range-requires
+    (search needs)
     (search needs)
     returns-2
     returns-3)

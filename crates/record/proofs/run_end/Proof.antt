@@ -1,5 +1,5 @@
 use Rattle.error.proofs.Tests.{yes-of}
-use Rattle.catalog.proofs.Sums.{fits-sum}
+use Rattle.volume.proofs.Sums.{fits-sum}
 use Rattle.record.proofs.ByKind.{run-ends}
 use Rattle.error.proofs.Chain.{chain}
 use Rattle.record.proofs.Fields.{fields}

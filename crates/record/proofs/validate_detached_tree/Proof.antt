@@ -1,4 +1,4 @@
-use Rattle.record.specs.Cleanup.{validateDetachedTree}
+use Rattle.record.proofs.ByKind.{detached-grouped}
 use Rattle.error.proofs.Chain.{chain}
 use Rattle.record.proofs.Fields.{fields}
 use borrow.Author.Needs.{needs}
@@ -6,24 +6,19 @@ use Rattle.record.proofs.validate_detached_tree.Statement.{statement}
 use Rattle.record.proofs.validate_detached_tree.Tie as tie
 
 returns : tie.Need-returns
-unfolding validateDetachedTree
-returns c = search (fields, chain) depth 12
+returns c = detached-grouped _ _ _ _ _ (search (fields, chain) depth 12)
 
 returns-2 : tie.Need-returns-2
-unfolding validateDetachedTree
-returns-2 c = search (fields, chain) depth 12
+returns-2 c = detached-grouped _ _ _ _ _ (search (fields, chain) depth 12)
 
 returns-3 : tie.Need-returns-3
-unfolding validateDetachedTree
-returns-3 c = search (fields, chain) depth 12
+returns-3 c = detached-grouped _ _ _ _ _ (search (fields, chain) depth 12)
 
 returns-4 : tie.Need-returns-4
-unfolding validateDetachedTree
-returns-4 c = search (fields, chain) depth 12
+returns-4 c = detached-grouped _ _ _ _ _ (search (fields, chain) depth 12)
 
 returns-5 : tie.Need-returns-5
-unfolding validateDetachedTree
-returns-5 c = search (fields, chain) depth 12
+returns-5 c = detached-grouped _ _ _ _ _ (search (fields, chain) depth 12)
 
 pub validate-detached-tree-spec : {M : Type 1} → statement M
 validate-detached-tree-spec =

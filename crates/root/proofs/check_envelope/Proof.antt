@@ -1,6 +1,7 @@
-use Rattle.error.proofs.Chain.{chain}
+use mathlib.Core.Path.{sym}
+use Rattle.error.proofs.Exactly.{all-pass}
+use Rattle.error.proofs.Chain.{chain, each}
 use Rattle.root.specs.Root.{checkEnvelope}
-use Rattle.root.proofs.Decode.{envelope-passed}
 use borrow.Author.Needs.{needs}
 use Rattle.root.proofs.check_envelope.Statement.{statement}
 use Rattle.root.proofs.check_envelope.Tie as tie
@@ -22,7 +23,8 @@ unfolding checkEnvelope
 returns-4 c = search chain depth 12
 
 returns-5 : tie.Need-returns-5
-returns-5 c = search envelope-passed
+unfolding checkEnvelope
+returns-5 c = sym (all-pass _ (search each, (search each, (search each, (search each, tt)))))
 
 pub check-envelope-spec : {M : Type 1} → statement M
 check-envelope-spec =

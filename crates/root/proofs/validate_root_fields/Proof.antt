@@ -1,6 +1,8 @@
-use Rattle.error.proofs.Chain.{chain}
+use mathlib.Core.Path.{_∙_}
+use mathlib.Core.List.{[], _∷_}
+use Rattle.error.proofs.Exactly.{after}
+use Rattle.error.proofs.Chain.{chain, each, handed-on, last-check}
 use Rattle.root.specs.Fields.{validateRootFields}
-use Rattle.root.proofs.Passing.{fourth-refused, fifth-last}
 use borrow.Author.Needs.{needs}
 use Rattle.root.proofs.validate_root_fields.Statement.{statement}
 use Rattle.root.proofs.validate_root_fields.Tie as tie
@@ -19,11 +21,11 @@ returns-3 c = search chain depth 12
 
 returns-4 : tie.Need-returns-4
 unfolding validateRootFields
-returns-4 c = search fourth-refused
+returns-4 c = search handed-on ∙ after _ _ (_ ∷ _ ∷ _ ∷ []) _ (search each, (search each, (search each, tt)))
 
 returns-5 : tie.Need-returns-5
 unfolding validateRootFields
-returns-5 c = search fifth-last
+returns-5 c = search last-check ∙ after _ _ (_ ∷ _ ∷ _ ∷ _ ∷ []) _ (search each, (search each, (search each, (search each, tt))))
 
 pub validate-root-fields-spec : {M : Type 1} → statement M
 validate-root-fields-spec =

@@ -1,4 +1,4 @@
-use Rattle.walk.specs.Turn.{joinOf}
+use Rattle.walk.specs.Inside.{joinOf}
 use Rattle.walk.proofs.Forms.{forms}
 use borrow.Author.Needs.{needs}
 use Rattle.walk.proofs.join_child.Statement.{statement}

@@ -1,4 +1,4 @@
-use Rattle.walk.specs.Turn.{formOf}
+use Rattle.walk.specs.Inside.{formOf}
 use Rattle.walk.proofs.Forms.{forms, form-passes}
 use borrow.Author.Needs.{needs}
 use Rattle.walk.proofs.record_form.Statement.{statement}

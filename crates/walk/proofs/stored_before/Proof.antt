@@ -9,7 +9,7 @@ use Rattle.octets.specs.Number.{u16At}
 use Rattle.lookup.specs.Record.{split, isRecord}
 use Rattle.lookup.specs.Sorted.{offsetOf}
 use Rattle.walk.specs.Records.{among}
-use Rattle.walk.specs.Children.{storedBlocks}
+use Rattle.walk.specs.Inside.{storedBlocks}
 use Rattle.walk.proofs.Children.{whole-within, offset-more, stored-more}
 use Rattle.walk.proofs.stored_before.Statement.{statement}
 use Rattle.walk.proofs.stored_before.Tie as tie

@@ -1,5 +1,4 @@
 -- `page::view::PageView::len`, a method with `self`, meets its contract: a walk of its MIR, by hand. A number is read from a field of the view, and the view is seen at exit as it was passed.
--- Assumes nothing.
 use mathlib.Core.Path.{refl}
 use Prim.Native.Nat.{_<_, _^_}
 use mathlib.Core.List.{[], _∷_}

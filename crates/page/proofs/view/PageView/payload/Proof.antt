@@ -1,6 +1,5 @@
 -- `page::view::PageView::payload` meets its contract: a walk of its MIR, by hand. The part that the view holds is handed back.
 -- The view is Copy: what it owns is had twice, one copy is kept whole for the exit, and of the other what the payload owns is taken, for the result.
--- Assumes nothing.
 use mathlib.Core.Path.{_≡_, refl}
 use mathlib.Core.List.{[], _∷_}
 use lib.Dec.{T as Holds}

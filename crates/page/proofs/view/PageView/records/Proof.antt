@@ -1,6 +1,5 @@
 -- `page::view::PageView::records` meets its contract: a walk of its MIR, by hand. A struct is made of the view's payload and its count.
 -- The view is Copy: what it owns is had twice, one copy is kept whole for the exit, and of the other what the payload owns is taken, for the result, beside the facts of the number.
--- Assumes nothing.
 use mathlib.Core.Path.{_≡_, refl}
 use mathlib.Core.List.{[], _∷_}
 use lib.Dec.{T as Holds}
@@ -18,7 +17,7 @@ use ghost.Atoms.{Atoms}
 use contract.Lifetimes.{Lfts}
 use contract.Monad.{Fun}
 use contract.Running.{givenOf, tables, tablesOf}
-use types.Kit.{Given, ‵, _⊛_, given, _$_, _∵_, !, qed, by, move, drop, use1, split, learn, fsplit, fjoin, suffices, frame, done}
+use types.Kit.{Given, ‵, _⊛_, given, _$_, _∵_, !, qed, by, move, drop, use1, split, learn, fsplit, fjoin, suffices, frame}
 use types.Part.{agg, whole, sub, look-in}
 use types.Run.{look, init, forget, stop, fld, from, load, of-opd, and-then, no-more, assigns, returns, enter, alloc1, alloc0, params1, pass1, pass0, free1, free0}
 use sound.WpLaws.{WpFn-mono}
