@@ -32,6 +32,13 @@ fn put(bytes: &mut [u8], at: usize, new: &[u8]) {
     bytes[at..at + new.len()].copy_from_slice(new);
 }
 
+/// Writes the checksum of a changed block at the place where it stands.
+fn seal(block: &mut [u8], at: usize) {
+    put(block, at, &[0; 4]);
+    let word = crc32c(block);
+    put(block, at, &word.to_le_bytes());
+}
+
 fn told(error: Option<Error>) -> &'static str {
     match error {
         None => GOOD,
@@ -77,9 +84,7 @@ impl RootCase {
     fn with(&self, at: usize, new: &[u8]) -> Self {
         let mut case = self.clone();
         put(&mut case.block, at, new);
-        put(&mut case.block, 4092, &[0; 4]);
-        let word = crc32c(&case.block);
-        put(&mut case.block, 4092, &word.to_le_bytes());
+        seal(&mut case.block, 4092);
         case
     }
 
@@ -278,9 +283,7 @@ impl PageCase {
     fn with(&self, at: usize, new: &[u8]) -> Self {
         let mut case = self.clone();
         put(&mut case.page, at, new);
-        put(&mut case.page, 64, &[0; 4]);
-        let word = crc32c(&case.page);
-        put(&mut case.page, 64, &word.to_le_bytes());
+        seal(&mut case.page, 64);
         case
     }
 

@@ -24,6 +24,7 @@ abbrev pub decodedLine : ℕ → Decoded → List ℕ
 decodedLine number d =
     bodyLine number (checkClass (d .answer)) (checkReason (d .answer)) (rootFields (d .root .generation) (textOf (d .root .label)))
 
+-- 01, readback: the line of a root's body
 unfoldable pub rootBodyLine : ℕ → List ℕ → List ℕ
 rootBodyLine number body = decodedLine number (rootIn body)
 
@@ -37,6 +38,7 @@ pageIn body =
 abbrev pub answeredLine : ℕ → Page → List ℕ
 answeredLine number p = bodyLine number (p .class) (p .reason) (pageFields (p .level) (p .«data_blocks») (p .count))
 
+-- 01, readback: the line of a page's body
 unfoldable pub pageBodyLine : ℕ → List ℕ → List ℕ
 pageBodyLine number body = answeredLine number (pageIn body)
 

@@ -1,6 +1,6 @@
 // The bodies that the program readback reads, and the line that each gives. Document 01, "The program readback".
 ghost use mathlib.Core.Path.{_≡_};
-ghost use Rattle.report.specs.Text.{Laid};
+ghost use Rattle.octets.specs.Bytes.{Laid};
 ghost use Rattle.body.specs.Body.{namesATree, decodedLine, rootBodyLine, pageBodyLine};
 use root::Decoded;
 use root::Root;

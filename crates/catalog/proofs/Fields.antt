@@ -3,10 +3,8 @@ use mathlib.Core.Path.{_≡_, ap, _∙_}
 use mathlib.Core.Bool.{Bool}
 use mathlib.Core.List.{List}
 use Prim.Native.Nat.{ℕ, _-_}
-use native.Mathlib.Omega.{arith}
 use lib.IntN.{ℤ}
-use lib.ListN.{length, take, drop, length-drop}
-use lib.Seq.{take-all}
+use lib.ListN.{length, take, drop}
 use mir.Syntax.{w64}
 use mir.Val.{SFits, toZ, ofZ}
 use mir.ValLaws.{toZ-ofZ}
@@ -14,6 +12,7 @@ use Rattle.error.specs.declared.Validation.{Validation}
 use Rattle.error.specs.declared.Check.{Check}
 use Rattle.error.specs.declared.Number.{Number}
 use Rattle.error.specs.Demand.{outcome, demands}
+use Rattle.octets.proofs.Parts.{part-from}
 use Rattle.utf8.specs.Reading.{utf8}
 use Rattle.volume.specs.Blocks.{isNonreservedBlock}
 use Rattle.catalog.specs.Keys.{validateOwnerId}
@@ -46,17 +45,11 @@ numbers-at type target size allocated children blocks mode p e f g = rw (e, f, g
 pub extent-at : {r : Number} {x y z w : ℕ} (logical physical count reserved blocks : ℕ) (mode : Validation) → r ≡ outcome (extentRangeDemands x y z w blocks mode) Number.Refused (Number.Value z) → x ≡ logical → y ≡ physical → z ≡ count → w ≡ reserved → r ≡ outcome (extentRangeDemands logical physical count reserved blocks mode) Number.Refused (Number.Value count)
 extent-at logical physical count reserved blocks mode p e f g h = rw (e, f, g, h) at p
 
-pub value-same : {y n : ℕ} → y ≡ n → Number.Value y ≡ Number.Value n
-value-same p = ap Number.Value p
-
 -- what stands from a place on, as the code cuts it
-rest-of : (s : List ℕ) (a : ℕ) → take (length s - a) (drop a s) ≡ drop a s
-rest-of s a = take-all (length s - a) (drop a s) (rw length-drop (omega arith))
-
 pub utf8-rest : (s : List ℕ) (a : ℕ) {r : Bool} → r ≡ utf8 (take (length s - a) (drop a s)) → r ≡ utf8 (drop a s)
-utf8-rest s a e = e ∙ ap utf8 (rest-of s a)
+utf8-rest s a e = e ∙ ap utf8 (part-from s a)
 
 pub target-rest : (s : List ℕ) (a : ℕ) (mode : Validation) {r : Check} → r ≡ validateSymlinkTarget (take (length s - a) (drop a s)) mode → r ≡ validateSymlinkTarget (drop a s) mode
-target-rest s a mode e = rw (rest-of s a) at e
+target-rest s a mode e = rw (part-from s a) at e
 
-pub ruleset fields = (owner-at, nonreserved-at, signed-at, time-at, seconds-kept, signed-kept, numbers-at, extent-at, value-same)
+pub ruleset fields = (owner-at, nonreserved-at, signed-at, time-at, seconds-kept, signed-kept, numbers-at, extent-at)

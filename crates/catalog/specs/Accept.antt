@@ -14,6 +14,7 @@ use Rattle.catalog.specs.Inode.{symlinkTargetDemands, validateSymlinkTar
 use Rattle.catalog.specs.Entry.{directoryEntryDemands, validateDirectoryEntry}
 use Rattle.catalog.specs.Extent.{extentCount, extentDemands, validateExtent}
 
+-- section 5: owners, keys, times, symlink targets, inodes, entries and extents
 pub record CatalogExactly : Type 0 where
   pub owner : (owner : ℕ) (mode : Validation) → (validateOwnerId owner mode ≡ Passed) ↔ AllHold (ownerDemands owner mode)
   pub catalog-key : (key : List ℕ) (mode : Validation) (kind : ℕ) → (validateCatalogKey key mode ≡ Number.Value kind) ↔ (AllHold (catalogKeyDemands key mode) × (kind ≡ keyKind key))

@@ -18,15 +18,19 @@ use Rattle.catalog.specs.Keys.{validateOwnerId}
 abbrev pub entryTarget : List ℕ → ℕ
 entryTarget value = u64At value 0
 
+-- section 5: byte 8, the type of what it names
 abbrev pub entryType : List ℕ → ℕ
 entryType value = byteAt value 8
 
+-- section 5: byte 9, reserved
 abbrev pub entryReserved : List ℕ → ℕ
 entryReserved value = byteAt value 9
 
+-- section 5: u16 at 10, the length of its name
 abbrev pub entryNameLength : List ℕ → ℕ
 entryNameLength value = u16At value 10
 
+-- section 5: from byte 12 on, its name
 abbrev pub entryName : List ℕ → List ℕ
 entryName value = drop 12 value
 
@@ -35,6 +39,7 @@ unfoldable pub isEntryName : List ℕ → Bool
 isEntryName value =
     leb 1 (entryNameLength value) && leb (entryNameLength value) 255 && eqb (length value) (12 + entryNameLength value) && utf8 (entryName value)
 
+-- section 5: what is asked of an entry, in order
 abbrev pub directoryEntryDemands : List ℕ → Validation → List Demand
 directoryEntryDemands value mode =
     leb 12 (length value) otherwise violationOf mode reason.directoryEntryIsTooShort
@@ -44,5 +49,6 @@ directoryEntryDemands value mode =
     ∷ isEntryName value otherwise violationOf mode reason.invalidDirectoryEntryName
     ∷ []
 
+-- section 5: the first that fails answers
 unfoldable pub validateDirectoryEntry : List ℕ → Validation → Check
 validateDirectoryEntry value mode = demands (directoryEntryDemands value mode)

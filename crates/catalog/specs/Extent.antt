@@ -18,12 +18,15 @@ use Rattle.catalog.specs.Keys.{keyNumber}
 abbrev pub extentLogical : List ℕ → ℕ
 extentLogical key = keyNumber key
 
+-- section 5: u64 at 0, its first block in the volume
 abbrev pub extentPhysical : List ℕ → ℕ
 extentPhysical value = u64At value 0
 
+-- section 5: u32 at 8, how many blocks it has
 abbrev pub extentCount : List ℕ → ℕ
 extentCount value = u32At value 8
 
+-- section 5: u32 at 12, reserved
 abbrev pub extentReserved : List ℕ → ℕ
 extentReserved value = u32At value 12
 
@@ -32,6 +35,7 @@ unfoldable pub isExtentRange : ℕ → ℕ → ℕ → ℕ → ℕ → Bool
 isExtentRange logical physical count reserved blocks =
     not (eqb count 0) && eqb reserved 0 && leb (logical + count) (2 ^ 51) && isNonreservedRun physical count blocks
 
+-- section 5: what is asked of an extent's numbers, in order
 abbrev pub extentRangeDemands : ℕ → ℕ → ℕ → ℕ → ℕ → Validation → List Demand
 extentRangeDemands logical physical count reserved blocks mode =
     sumFits physical count otherwise violationOf mode reason.extentPhysicalRange

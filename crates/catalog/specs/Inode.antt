@@ -33,34 +33,42 @@ tooLongOf Disk reason = Corrupt reason
 unfoldable pub isTarget : List ℕ → Bool
 isTarget target = not (eqb (length target) 0) && withoutNul target && utf8 target
 
+-- section 5: what is asked of a symlink's target, in order
 abbrev pub symlinkTargetDemands : List ℕ → Validation → List Demand
 symlinkTargetDemands target mode =
     leb (length target) 1023 otherwise tooLongOf mode reason.symlinkTargetIsTooLong
     ∷ isTarget target otherwise violationOf mode reason.invalidSymlinkTarget
     ∷ []
 
+-- section 5: the first that fails answers
 unfoldable pub validateSymlinkTarget : List ℕ → Validation → Check
 validateSymlinkTarget target mode = demands (symlinkTargetDemands target mode)
 
--- the fields of an inode; three timestamps stand at 40, 56 and 72
+-- section 5: byte 0, its type; the fields of an inode are those from here on
 abbrev pub inodeType : List ℕ → ℕ
 inodeType value = byteAt value 0
 
+-- section 5: byte 1, its flags
 abbrev pub inodeFlags : List ℕ → ℕ
 inodeFlags value = byteAt value 1
 
+-- section 5: u64 at 8, its parent
 abbrev pub inodeParent : List ℕ → ℕ
 inodeParent value = u64At value 8
 
+-- section 5: u64 at 16, its size in bytes
 abbrev pub inodeSize : List ℕ → ℕ
 inodeSize value = u64At value 16
 
+-- section 5: u64 at 24, its allocated blocks
 abbrev pub inodeAllocated : List ℕ → ℕ
 inodeAllocated value = u64At value 24
 
+-- section 5: u64 at 32, how many children it has
 abbrev pub inodeChildren : List ℕ → ℕ
 inodeChildren value = u64At value 32
 
+-- section 5: from byte 128 on, a symlink's target
 abbrev pub inodeTarget : List ℕ → List ℕ
 inodeTarget value = drop 128 value
 
@@ -107,6 +115,7 @@ inodeFieldDemands value blocks mode =
 unfoldable pub targetCheck : List ℕ → Validation → Check
 targetCheck value mode = cond (eqb (inodeType value) 3) (validateSymlinkTarget (inodeTarget value) mode) Passed
 
+-- section 5: its three times, at 40, 56 and 72
 abbrev pub inodeTimeDemands : List ℕ → Validation → List Demand
 inodeTimeDemands value mode =
     passing (validateTimestamp value 40 mode)
@@ -129,5 +138,6 @@ inodeDemands value blocks mode =
     ++ (flagsAndReserved value otherwise violationOf mode reason.invalidInodeFlagsOrReservedBytes ∷ inodeFieldDemands value blocks mode)
     ++ (passing (targetCheck value mode) ∷ inodeTimeDemands value mode)
 
+-- section 5: the first that fails answers
 unfoldable pub validateInode : List ℕ → ℕ → Validation → Check
 validateInode value blocks mode = demands (inodeDemands value blocks mode)

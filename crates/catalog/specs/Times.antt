@@ -23,6 +23,7 @@ timestampRangeDemands seconds nanos mode =
     ∷ leb nanos 999999999 otherwise violationOf mode reason.timestampNanosecondsOutOfRange
     ∷ []
 
+-- section 5: the first that fails answers
 unfoldable pub validateTimestampRange : ℤ → ℕ → Validation → Check
 validateTimestampRange seconds nanos mode = demands (timestampRangeDemands seconds nanos mode)
 
@@ -34,14 +35,17 @@ signedNumber word = cond (ltb word (2 ^ 63)) (pos word) (pos word -ℤ pos (2 ^ 
 abbrev pub secondsAt : List ℕ → ℕ → ℤ
 secondsAt value offset = signedNumber (u64At value offset)
 
+-- section 5: a stored time's nanoseconds, 8 bytes behind its seconds
 abbrev pub nanosAt : List ℕ → ℕ → ℕ
 nanosAt value offset = u32At value (offset + 8)
 
+-- section 5: what is asked of a stored time, in order
 abbrev pub timestampDemands : List ℕ → ℕ → Validation → List Demand
 timestampDemands value offset mode =
     passing (validateTimestampRange (secondsAt value offset) (nanosAt value offset) mode)
     ∷ eqb (u32At value (offset + 12)) 0 otherwise violationOf mode reason.timestampReservedBytes
     ∷ []
 
+-- section 5: the first that fails answers
 unfoldable pub validateTimestamp : List ℕ → ℕ → Validation → Check
 validateTimestamp value offset mode = demands (timestampDemands value offset mode)

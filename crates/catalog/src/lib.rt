@@ -6,7 +6,7 @@ ghost use lib.ListN.{length};
 ghost use Rattle.error.specs.declared.Number.{Number as NumberOf};
 ghost use Rattle.error.specs.Demand.{outcome, demands};
 ghost use Rattle.volume.specs.Numbers.{sumFits};
-ghost use Rattle.catalog.specs.Keys.{validateOwnerId, isCatalogKey, validateCatalogKey};
+ghost use Rattle.catalog.specs.Keys.{validateOwnerId, isEntryKey, isCatalogKey, validateCatalogKey};
 ghost use Rattle.catalog.specs.Times.{secondsInRange, validateTimestampRange, signedNumber, validateTimestamp};
 ghost use Rattle.catalog.specs.Inode.{withoutNul, tooLongOf, isTarget, validateSymlinkTarget, endsRight, flagsAllowed, fieldsInRange, fieldsOfType, flagsAndReserved, inodeNumberDemands, targetCheck, validateInode};
 ghost use Rattle.catalog.specs.Inside.{inodeFields, inodeTimes, inodeShape};
@@ -39,22 +39,29 @@ pub fn validate_owner_id(owner: u64, mode: Validation) -> Check
     Check::Passed
 }
 
+// Whether a key is a directory entry's: 1 to 765 bytes of UTF-8 after the kind.
+fn is_entry_key(key: &[u8]) -> bool
+    ensures { λ r. ⌜ r ≡ isEntryKey (now (key .entry)) ⌝ }
+{
+    if octets::byte_at(key, 8) != 2 {
+        return false;
+    }
+    if key.len() < 10 {
+        return false;
+    }
+    if 774 < key.len() {
+        return false;
+    }
+    utf8::is_utf8(&key[9..])
+}
+
 // Whether a key has the form that its kind asks for.
 fn is_catalog_key(key: &[u8]) -> bool
     ensures { λ r. ⌜ r ≡ isCatalogKey (now (key .entry)) ⌝ }
 {
     let kind = octets::byte_at(key, 8);
     let n = key.len();
-    if kind == 2 {
-        if n < 10 {
-            return false;
-        }
-        if 774 < n {
-            return false;
-        }
-        return utf8::is_utf8(&key[9..]);
-    }
-    (kind == 1) & (n == 9) | ((kind == 3) | (kind == 4)) & (n == 17)
+    (kind == 1) & (n == 9) | is_entry_key(key) | ((kind == 3) | (kind == 4)) & (n == 17)
 }
 
 // Check a catalog key; the record's kind.
@@ -93,7 +100,7 @@ pub fn validate_timestamp_range(seconds: i64, nanos: u32, mode: Validation) -> C
 }
 
 // A stored word as a signed number: two's complement.
-fn signed_number(word: u64) -> i64
+pub fn signed_number(word: u64) -> i64
     ensures { λ r. ⌜ r ≡ signedNumber word ⌝ }
 {
     if word < 0x8000_0000_0000_0000 {

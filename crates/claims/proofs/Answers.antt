@@ -31,15 +31,15 @@ use Rattle.record.specs.declared.Child.{Child}
 use Rattle.record.specs.Allocation.{groupIndexDemands, validateGroupIndex, allocationGroupDemands, validateAllocationGroup}
 use Rattle.record.specs.Cleanup.{cleanupKind, cleanupNumber, cleanupBlock, retirementDemands, validateRetirement, detachedTreeDemands, validateDetachedTree, orphanMarkerDemands, validateOrphanMarker, cleanupRecord, cleanupDemands, validateCleanupKeyValue}
 use Rattle.record.specs.Workspace.{workspaceKeyDemands, validateWorkspaceKey, workspaceRunDemands, validateWorkspaceRun}
-use Rattle.record.specs.Internal.{childRef, allocationKeyDemands, allocationInternalKey, retirementKeyDemands, retirementKey, cleanupInternalKey, internalKey, internalDemands, validateInternalRecord}
+use Rattle.record.specs.Internal.{childRef, allocationKeyDemands, allocationInternalKey, retirementKeyDemands, retirementKey, cleanupInternalKey, internalKey, internalDemands, validateInternalRecord, childBlock}
 use Rattle.record.specs.Leaf.{uncountedRecord, catalogRecord, leafDemands, leafBlocks, validateLeafRecord, recordSizeDemands, leafRecordBlocks}
 use Rattle.lookup.specs.Record.{keyOf, valueOf}
 use Rattle.walk.specs.declared.RecordValidation.{RecordValidation}
-use Rattle.walk.specs.Records.{formDemands, formCheck, Own, leafRules, childBlock, childRules, ownAnswer, joinDemands, joinCheck, recordDemands, walk, sizeDemands, records, isLeaf, ownRules, validateRecords}
+use Rattle.walk.specs.Records.{formDemands, formCheck, Own, leafRules, childRules, ownAnswer, joinDemands, joinCheck, recordDemands, walk, sizeDemands, records, isLeaf, ownRules, validateRecords}
 use Rattle.page.specs.declared.Expected.{Expected}
 use Rattle.page.specs.declared.Page.{Page}
 use Rattle.page.specs.Header.{callerDemands, checkCaller, formatDemands, checkFormat, kindDemands, checkKind, identityDemands, checkIdentity, headerDemands, validatePageHeader}
-use Rattle.page.specs.Page.{walked, contentDemands, checkContent, pageDemands, refusedPage, acceptedPage, decodePage}
+use Rattle.page.specs.Page.{validatePageRecords, contentDemands, checkContent, pageDemands, refusedPage, acceptedPage, decodePage}
 use Rattle.page.specs.Unchecked.{verifiedDemands, verifiedPageView, draftDemands, draftNumbers, draftPageView}
 use Rattle.root.specs.declared.NewLabel.{NewLabel}
 use Rattle.root.specs.declared.Root.{Root}
@@ -51,7 +51,7 @@ use Rattle.root.specs.Label.{labelDemands, labelNew}
 use Rattle.root.specs.Fields.{generalDemands, checkGeneral, refsDemands, checkRefs, workspaceDemands, checkWorkspace, treesDemands, checkTrees, numbersDemands, checkNumbers, fieldDemands, validateRootFields}
 use Rattle.root.specs.Root as root
 use Rattle.root.specs.Root.{labelLength, labelText, rootOf, placeDemands, checkPlace, envelopeDemands, checkEnvelope, textDemands, checkText, labelFieldDemands, checkLabel, blockDemands, checkBlock, rootRefused, rootDemands, rootDecode}
-use Rattle.root.specs.Select.{selected, selectionRefused, pairDemands, selectPair, selectBy, selectRoot, oneRoot, none, supportedRoot}
+use Rattle.root.specs.Select.{selection, selectionRefused, pairDemands, selectPair, selectBy, selectRoot, oneRoot, none, supportedRoot}
 use Rattle.claims.specs.Answers.{isReason, isAnswer, Answers, NumberAnswers, PageAnswers, Demand1}
 
 -- ---- lists of demands
@@ -300,10 +300,10 @@ own-answers : (b : Bool) (c : RecordValidation) (key value : List ℕ) → Numbe
 own-answers true c key value = leaf-answers (c .kind) key value (c .blocks) (c .«page_generation») (c .mode)
 own-answers false c key value = child-answers (c .kind) key value (c .blocks) (c .«page_generation») (c .mode)
 
-records-answers : (rest : List ℕ) (payload count : ℕ) (c : RecordValidation) → NumberAnswers (validateRecords rest payload count c)
+records-answers : (rest : List ℕ) (payloadLength count : ℕ) (c : RecordValidation) → NumberAnswers (validateRecords rest payloadLength count c)
 unfolding validateRecords records
-records-answers rest payload count c =
-    numbered _ (walk-answers (isLeaf c) (c .mode) (ownRules c) (own-answers (isLeaf c) c) count rest payload [] 0 []) (sizeDemands rest payload count (c .mode)) (search good)
+records-answers rest payloadLength count c =
+    numbered _ (walk-answers (isLeaf c) (c .mode) (ownRules c) (own-answers (isLeaf c) c) count rest payloadLength [] 0 []) (sizeDemands rest payloadLength count (c .mode)) (search good)
 
 -- ---- section 4
 caller-answers : (reference : TreeRef) (uuid : List ℕ) (kind : TreeKind) (parent : ℕ) (expected : Expected) (blocks : ℕ) (page : List ℕ) → Answers (checkCaller reference uuid kind parent expected blocks page)
@@ -328,7 +328,7 @@ header-answers reference uuid kind parent expected blocks page =
     listed (headerDemands reference uuid kind parent expected blocks page) (search (good, caller-answers, format-answers, page-kind-answers, identity-answers))
 
 content-answers : (kind : TreeKind) (blocks : ℕ) (page : List ℕ) → Answers (checkContent kind blocks page)
-unfolding checkContent walked
+unfolding checkContent validatePageRecords
 content-answers kind blocks page = listed (contentDemands kind blocks page) (passed-on _ (records-answers _ _ _ _), (refl, (refl, (refl, tt))))
 
 paged : (p : Page) → PageAnswers p → (ds : List Demand) → AllGood ds → PageAnswers (outcome ds refusedPage p)
@@ -410,7 +410,7 @@ pair-answers : (a b : Root) → Answers (selectPair a b .answer)
 unfolding selectPair
 pair-answers a b = ends (λ (x : Selected). Answers (x .answer)) selectionRefused _ (λ e g. record { told = g }) (go (leb (b .generation) (a .generation))) (pairDemands a b) (refl, (refl, tt))
   where
-    go : (t : Bool) → Answers (cond t (selected 1 a) (selected 2 b) .answer)
+    go : (t : Bool) → Answers (cond t (selection 1 a) (selection 2 b) .answer)
     go true = passing-answers
     go false = passing-answers
 

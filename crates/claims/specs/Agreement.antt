@@ -3,6 +3,7 @@ use Rattle.page.specs.Agree.{PagesAgree, LookupIsHandedOut}
 use Rattle.root.specs.Agree.{RootsAgree}
 use Rattle.group.specs.Agree.{GroupsAgree, ExpandedSlots, ExpandedGroupsAgree}
 
+-- demand 3, with 01's "What demand 3 compares"
 pub record Demand3 : Type 0 where
   -- two pages accepted for one reference, UUID and tree kind agree in all 4,096 bytes exactly when level, total and all lookups agree, whatever scratch each lookup is lent
   pub pages : PagesAgree

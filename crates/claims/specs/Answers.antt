@@ -24,10 +24,10 @@ use Rattle.catalog.specs.Extent.{validateExtent}
 use Rattle.record.specs.Allocation.{validateAllocationGroup}
 use Rattle.record.specs.Cleanup.{validateCleanupKeyValue}
 use Rattle.record.specs.Workspace.{validateWorkspaceKey, validateWorkspaceRun}
-use Rattle.record.specs.Internal.{validateInternalRecord}
+use Rattle.record.specs.Internal.{validateInternalRecord, childBlock}
 use Rattle.record.specs.Leaf.{validateLeafRecord, leafRecordBlocks}
 use Rattle.walk.specs.declared.RecordValidation.{RecordValidation}
-use Rattle.walk.specs.Records.{childBlock, validateRecords}
+use Rattle.walk.specs.Records.{validateRecords}
 use Rattle.page.specs.declared.Expected.{Expected}
 use Rattle.page.specs.declared.Page.{Page}
 use Rattle.page.specs.Header.{validatePageHeader}
@@ -54,12 +54,15 @@ isAnswer class reason =
 pub record Answers (c : Check) : Type 0 where
   pub told : isAnswer (checkClass c) (checkReason c) ≡ true
 
+-- the same of a call that gives a number
 abbrev pub NumberAnswers : Number → Type 0
 NumberAnswers n = Answers (numberCheck n)
 
+-- the same of a call that gives a page's numbers
 abbrev pub PageAnswers : Page → Type 0
 PageAnswers p = isAnswer (p .class) (p .reason) ≡ true
 
+-- demand 1, call by call, by the sections of 01
 pub record Demand1 : Type 0 where
   -- section 2: blocks, references and slots
   pub blocks : (blocks : ℕ) (mode : Validation) → Answers (validateBlocks blocks mode)
@@ -94,7 +97,7 @@ pub record Demand1 : Type 0 where
   pub internal-record : (kind : TreeKind) (key value : List ℕ) (blocks generation : ℕ) (mode : Validation) → NumberAnswers (childBlock (validateInternalRecord kind key value blocks generation mode))
   pub leaf-record : (kind : TreeKind) (key value : List ℕ) (blocks generation : ℕ) (mode : Validation) → NumberAnswers (validateLeafRecord kind key value blocks generation mode)
   pub leaf-blocks : (kind : TreeKind) (key value : List ℕ) (blocks generation : ℕ) → NumberAnswers (leafRecordBlocks kind key value blocks generation)
-  pub walk : (rest : List ℕ) (payload count : ℕ) (context : RecordValidation) → NumberAnswers (validateRecords rest payload count context)
+  pub walk : (rest : List ℕ) (payloadLength count : ℕ) (context : RecordValidation) → NumberAnswers (validateRecords rest payloadLength count context)
   -- section 6: checksum groups
   pub group : (key value : List ℕ) (mode : Validation) → Answers (validateChecksumGroup key value mode)
   pub slot : (g : List ℕ) (s : ℕ) → isAnswer (slotClass (checksumSlot g s)) (slotReason (checksumSlot g s)) ≡ true

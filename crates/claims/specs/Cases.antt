@@ -5,6 +5,7 @@ use Rattle.record.specs.Cases as record-cases
 use Rattle.group.specs.Cases as group
 use Rattle.lookup.specs.Cases as lookup
 
+-- all of 01's [P] cases hold
 pub record Cases : Type 0 where
   -- section 2: slots, bank roots and blocks, non-reserved blocks at B = 1,024 and 1,025
   pub volume-blocks : volume.CasesHold

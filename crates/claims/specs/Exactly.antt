@@ -14,6 +14,7 @@ use Rattle.catalog.specs.Accept.{CatalogExactly}
 use Rattle.record.specs.Accept.{RecordsExactly}
 use Rattle.lookup.specs.Sorted.{FloorIsTheLast, WalkingIsHalving}
 
+-- demand 2: what the definition accepts is accepted, nothing else
 pub record Demand2 : Type 0 where
   -- a text is UTF-8 exactly when it is a sequence of RFC 3629's alternatives
   pub texts : (s : List ℕ) → (utf8 s ≡ true) ↔ Utf8 s

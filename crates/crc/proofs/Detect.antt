@@ -6,7 +6,7 @@ use native.Mathlib.Nat.{suc-inj}
 use native.Mathlib.Omega.{arith}
 use lib.ListN.{length}
 use Rattle.crc.specs.Crc.{_⊕_, ones, polynomial, stepBit, stepBits, stepByte, extend, crc32c}
-use Rattle.crc.specs.Inside.{number, xors}
+use Rattle.crc.specs.Inside.{number}
 use Rattle.crc.proofs.Xor.{⊕-comm, ⊕-zero-l, ⊕-self, ⊕-swap, ⊕-shl, ⊕-lt, ⊕-cancel, ⊕-zero-eq}
 use Rattle.crc.proofs.Linear.{stepBits-⊕, stepBits-add, stepBits-shifted, extend-number}
 
@@ -53,6 +53,12 @@ stepByte-register r s b hr hs hb e =
     (⊕-comm b r ∙ stepBits-injective 8 (r ⊕ b) (s ⊕ b) (⊕-lt 32 r b hr (omega arith)) (⊕-lt 32 s b hs (omega arith)) e ∙ ⊕-comm s b)
 
 -- ---- messages of one length
+
+-- two messages, byte by byte, as long as the shorter
+unfoldable pub xors : List ℕ → List ℕ → List ℕ
+xors [] ys = []
+xors (x ∷ xs) [] = []
+xors (x ∷ xs) (y ∷ ys) = (x ⊕ y) ∷ xors xs ys
 
 pub length-xors : (xs ys : List ℕ) → length xs ≡ length ys → length (xors xs ys) ≡ length xs
 unfolding xors

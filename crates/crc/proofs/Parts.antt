@@ -7,7 +7,8 @@ use native.Mathlib.Omega.{arith}
 use lib.ListN.{length, take, drop, getD, replicate, length-drop, drop-of-length-le, replicate-append-replicate}
 use lib.Seq.{drop-cons, take-all}
 use Rattle.crc.specs.Crc.{_⊕_, ones, stepByte, extend, crc32c, zeroed, crc32cWithZero}
-use Rattle.crc.specs.DataUnit.{unitBytes, tag, le, dataUnit}
+use Rattle.crc.specs.DataUnit.{unitBytes, tag, dataUnit}
+use Rattle.octets.specs.Number.{littleBytes}
 use Rattle.crc.proofs.Linear.{extend-append}
 
 -- the byte at i, and then the rest
@@ -170,23 +171,23 @@ with-zero {e} {s} {x} {y} {z} bs start end pe ps px py pz =
 -- ---- a data unit
 
 -- a turn of the loop over a number's bytes: the lowest, and then the rest
-pub number-one : {w s b : ℕ} (r left n : ℕ) → w ≡ extend r (le left n) → 0 < left → b ≡ n % 256 → s ≡ stepByte r b
-    → w ≡ extend s (le (left - 1) (n / 256))
-unfolding extend le
+pub number-one : {w s b : ℕ} (r left n : ℕ) → w ≡ extend r (littleBytes left n) → 0 < left → b ≡ n % 256 → s ≡ stepByte r b
+    → w ≡ extend s (littleBytes (left - 1) (n / 256))
+unfolding extend
 number-one r zero n p h e q = absurd (not-suc-le-zero h)
 number-one r (suc left) n p h e q =
     let k : left ≡ suc left - 1 = omega arith in
-    p ∙ ap₂ (λ (x y : ℕ). extend x (le y (n / 256))) (sym (q ∙ ap (stepByte r) e)) k
+    p ∙ ap₂ (λ (x y : ℕ). extend x (littleBytes y (n / 256))) (sym (q ∙ ap (stepByte r) e)) k
 
-pub number-done : {w r : ℕ} (left n : ℕ) → w ≡ extend r (le left n) → left ≤ 0 → r ≡ w
-unfolding extend le
+pub number-done : {w r : ℕ} (left n : ℕ) → w ≡ extend r (littleBytes left n) → left ≤ 0 → r ≡ w
+unfolding extend
 number-done zero n p h = sym p
 number-done (suc left) n p h = absurd (not-suc-le-zero h)
 
 -- the parts that are summed, one after the other
 pub data-unit : {a b c d e f g : ℕ} (uuid : List ℕ) (object unit : ℕ) (valid : List ℕ)
-    → a ≡ extend ones tag → b ≡ extend a uuid → c ≡ extend b (le 8 object) → d ≡ extend c (le 8 unit)
-    → e ≡ extend d (le 4 (length valid)) → f ≡ extend e valid → g ≡ extend f (replicate (unitBytes - length valid) 0)
+    → a ≡ extend ones tag → b ≡ extend a uuid → c ≡ extend b (littleBytes 8 object) → d ≡ extend c (littleBytes 8 unit)
+    → e ≡ extend d (littleBytes 4 (length valid)) → f ≡ extend e valid → g ≡ extend f (replicate (unitBytes - length valid) 0)
     → g ⊕ ones ≡ crc32c (dataUnit uuid object unit valid)
 unfolding crc32c dataUnit
 data-unit uuid object unit valid pa pb pc pd pe pf pg = ap (λ (x : ℕ). x ⊕ ones) (simp extend-append (cc))

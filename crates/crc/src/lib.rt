@@ -3,10 +3,11 @@ mod words;
 
 ghost use mathlib.Core.Path.{_≡_};
 ghost use mathlib.Core.List.{[], _∷_};
-ghost use Prim.Native.Nat.{_+_, _*_, _%_, _^_, _<_, _≤_, min};
+ghost use Prim.Native.Nat.{_+_, _*_, _%_, _^_, _<_, _≤_};
 ghost use lib.ListN.{length, drop, replicate};
+ghost use Rattle.octets.specs.Number.{littleBytes};
 ghost use Rattle.crc.specs.Crc.{stepBits, stepByte, extend, crc32c as crc32cOf, crc32cWithZero};
-ghost use Rattle.crc.specs.DataUnit.{unitBytes, le, dataUnit, dataUnitCrc};
+ghost use Rattle.crc.specs.DataUnit.{unitBytes, dataUnit, dataUnitCrc};
 ghost use Rattle.crc.specs.Inside.{number};
 ghost use Rattle.crc.specs.Tables.{IsTables};
 use error::Error;
@@ -15,6 +16,9 @@ use words::TABLES;
 
 // Bytes in one unit of a file's data.
 pub const UNIT_BYTES: usize = 65_536;
+
+// The reason of a string that isn't in the list of reasons.
+const UNLISTED: u16 = 0;
 
 // A constant array is copied to the stack by each call of the function that names it: so one function does, a public call
 // makes one copy, and what looks words up is lent that.
@@ -151,7 +155,7 @@ fn low_byte(n: u64) -> u8
 // The register `crc` after the low `width` bytes of `n`, the lowest first.
 fn number_with(t: &[u32; 2048], crc: u32, width: usize, n: u64) -> u32
     requires { ⌜ IsTables (now t) ⌝ }
-    ensures { λ r. ⌜ r ≡ extend crc (le width n) ⌝ }
+    ensures { λ r. ⌜ r ≡ extend crc (littleBytes width n) ⌝ }
 {
     let mut r = crc;
     let mut left = width;
@@ -187,18 +191,12 @@ pub fn crc32c(bytes: &[u8]) -> u32
     software_extend(0xFFFF_FFFF, bytes) ^ 0xFFFF_FFFF
 }
 
-fn lesser(a: usize, b: usize) -> usize
-    ensures { λ r. ⌜ r ≡ min a b ⌝ }
-{
-    if a < b { a } else { b }
-}
-
 // The checksum of `bytes` with `zero_start .. zero_end` read as zeros.
 pub fn crc32c_with_zero(bytes: &[u8], zero_start: usize, zero_end: usize) -> u32
     ensures { λ r. ⌜ r ≡ crc32cWithZero (now (bytes .entry)) «zero_start» «zero_end» ⌝ }
 {
-    let end = lesser(zero_end, bytes.len());
-    let start = lesser(zero_start, end);
+    let end = octets::lesser(zero_end, bytes.len());
+    let start = octets::lesser(zero_start, end);
     let t = tables();
     let head = extend_with(&t, 0xFFFF_FFFF, &bytes[..start]);
     let gap = zeros_with(&t, head, end - start);
@@ -225,10 +223,10 @@ pub fn data_unit_crc(uuid: &[u8; 16], object: u64, unit: u64, valid: &[u8]) -> N
     ensures { λ r. ⌜ r ≡ dataUnitCrc (now (uuid .entry)) object unit (now (valid .entry)) ⌝ }
 {
     if valid.len() < 1 {
-        return Number::Refused(Error::InvalidInput(0));
+        return Number::Refused(Error::InvalidInput(UNLISTED));
     }
     if UNIT_BYTES < valid.len() {
-        return Number::Refused(Error::InvalidInput(0));
+        return Number::Refused(Error::InvalidInput(UNLISTED));
     }
     Number::Value(unit_sum(uuid, object, unit, valid) as u64)
 }

@@ -65,14 +65,30 @@ module _ {A : Type 0} (ds : List Demand) (refused : Error → A) (accepted x : A
   pub outcome-passed : c ≡ Passed → x ≡ accepted → x ≡ outcome ds refused accepted
   outcome-passed p q = q ∙ sym (outcome-by ds refused accepted ∙ ap (λ (d : Check). by d refused accepted) (sym is ∙ p))
 
+-- what such an answer tells of the list
+module _ {A : Type 0} (ds : List Demand) (refused : Error → A) (accepted : A) where
+  -- one that is no refusal: all demands hold, and it is the accepted one
+  pub answer-passed : (x : A) → ((e : Error) → refused e ≡ x → ⊥) → outcome ds refused accepted ≡ x → (demands ds ≡ Passed) × (accepted ≡ x)
+  answer-passed x apart e = go (demands ds) refl (sym (outcome-by ds refused accepted) ∙ e)
+    where
+      go : (c : Check) → demands ds ≡ c → by c refused accepted ≡ x → (demands ds ≡ Passed) × (accepted ≡ x)
+      go Passed p f = (p, f)
+      go (Refused y) p f = absurd (apart y f)
+
+  -- a refusal: it is that of the demands
+  pub answer-refused : (x : Error) → (accepted ≡ refused x → ⊥) → ((y : Error) → refused y ≡ refused x → y ≡ x) → outcome ds refused accepted ≡ refused x → demands ds ≡ Refused x
+  answer-refused x apart same e = go (demands ds) (sym (outcome-by ds refused accepted) ∙ e)
+    where
+      go : (c : Check) → by c refused accepted ≡ refused x → c ≡ Refused x
+      go Passed f = absurd (apart f)
+      go (Refused y) f = ap Refused (same y f)
+
 -- such an answer gives its own value exactly where each test holds; `refused` and `given` never meet
 module _ {A B : Type 0} (refused : Error → A) (given : B → A) (apart : (e : Error) (w : B) → refused e ≡ given w → ⊥) (inside : (v w : B) → given v ≡ given w → w ≡ v) where
   given-only : (ds : List Demand) (v w : B) → outcome ds refused (given v) ≡ given w → AllHold ds × (w ≡ v)
-  given-only ds v w p = go (demands ds) refl (sym (outcome-by ds refused (given v)) ∙ p)
-    where
-      go : (c : Check) → demands ds ≡ c → by c refused (given v) ≡ given w → AllHold ds × (w ≡ v)
-      go Passed e q = (all-hold ds e, inside v w q)
-      go (Refused x) e q = absurd (apart x w q)
+  given-only ds v w p =
+      let a = answer-passed ds refused (given v) (given w) (λ e. apart e w) p in
+      (all-hold ds (a .0), inside v w (a .1))
 
   pub given-exactly : (ds : List Demand) (v w : B) → (outcome ds refused (given v) ≡ given w) ↔ (AllHold ds × (w ≡ v))
   given-exactly ds v w = (given-only ds v w, λ h. outcome-holds ds refused (given v) (h .0) ∙ ap given (sym (h .1)))

@@ -1,9 +1,10 @@
 -- Tests joined, and a test from what a call ensures of its result.
 use mathlib.Core.Path.{_≡_, refl, sym, _∙_}
 use mathlib.Core.Bool.{Bool, true, false, not, _&&_, _||_, and-false}
+use mathlib.Core.Logic.{_⊎_, inl, inr}
 use Prim.Native.Nat.{ℕ, _≤_, _<_}
 use native.Mathlib.Omega.{arith}
-use borrow.Author.Tests.{eq-eqb, ne-eqb, le-leb, lt-leb, lt-ltb, le-ltb, not-true, not-false}
+use borrow.Author.Tests.{eq-eqb, ne-eqb, eqb-true, le-leb, lt-leb, lt-ltb, le-ltb, not-true, not-false}
 use lib.Dec.{eqb, leb}
 
 -- ---- both tests hold
@@ -36,6 +37,21 @@ or-second false b p = p
 
 pub or-neither : (a b : Bool) → a ≡ false → b ≡ false → (a || b) ≡ false
 or-neither a b p q = rw (p, q)
+
+either : (a b : Bool) → (a || b) ≡ true → (a ≡ true) ⊎ (b ≡ true)
+either true b e = inl refl
+either false b e = inr e
+
+pub one-of : (n a b : ℕ) → (eqb n a || eqb n b) ≡ true → (n ≡ a) ⊎ (n ≡ b)
+one-of n a b e = go (either (eqb n a) (eqb n b) e)
+  where
+    go : (eqb n a ≡ true) ⊎ (eqb n b ≡ true) → (n ≡ a) ⊎ (n ≡ b)
+    go (inl p) = inl (eqb-true n a p)
+    go (inr p) = inr (eqb-true n b p)
+
+pub is-one-of : (n a b : ℕ) → (n ≡ a) ⊎ (n ≡ b) → (eqb n a || eqb n b) ≡ true
+is-one-of n a b (inl p) = or-first (eqb n a) (eqb n b) (eq-eqb n a p)
+is-one-of n a b (inr p) = or-second (eqb n a) (eqb n b) (eq-eqb n b p)
 
 -- ---- a test turned round
 

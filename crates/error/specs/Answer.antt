@@ -31,6 +31,7 @@ abbrev pub checkClass : Check → ℕ
 checkClass Passed = 0
 checkClass (Refused e) = classOf e
 
+-- the reason of a check's answer, 0 where it passed
 abbrev pub checkReason : Check → ℕ
 checkReason Passed = 0
 checkReason (Refused e) = reasonOf e
@@ -40,6 +41,7 @@ abbrev pub numberCheck : Number → Check
 numberCheck (Number.Value n) = Passed
 numberCheck (Number.Refused e) = Refused e
 
+-- the number of an answer, 0 beside a refusal
 abbrev pub numberOf : Number → ℕ
 numberOf (Number.Value n) = n
 numberOf (Number.Refused e) = 0

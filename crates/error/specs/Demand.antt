@@ -13,6 +13,7 @@ pub record Demand : Type 0 where
   pub refusal : Error
 
 infixl 70 _otherwise_
+-- a test, and the refusal where it fails
 abbrev pub _otherwise_ : Bool → Error → Demand
 t otherwise e = record { test = t; refusal = e }
 
@@ -26,6 +27,7 @@ abbrev pub refusalOf : Check → Error
 refusalOf Passed = UnsupportedFormat
 refusalOf (Refused e) = e
 
+-- that a check passes, with its own refusal
 abbrev pub passing : Check → Demand
 passing c = record { test = isPassed c; refusal = refusalOf c }
 

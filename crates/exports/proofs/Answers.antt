@@ -1,6 +1,6 @@
 -- The words of an answer, and where they are placed.
 use mathlib.Core.Path.{_≡_, refl, ap, _∙_}
-use mathlib.Core.List.{List, _++_}
+use mathlib.Core.List.{List}
 use mathlib.Core.Bool.{true, _&&_}
 use lib.Dec.{leb, eqb}
 use Prim.Native.Nat.{ℕ, _≤_}
@@ -8,15 +8,17 @@ use borrow.Author.Tests.{eqb-true, leb-true}
 use Rattle.error.proofs.Tests.{and-left, and-right}
 use Rattle.page.specs.declared.Page.{Page}
 use native.Mathlib.Nat.{zero-add}
-use lib.ListN.{length, drop, length-append}
-use lib.Seq.{take-at, drop-drop, drop-append-add}
+use lib.ListN.{length}
+use native.Mathlib.Omega.{arith}
+use Rattle.octets.specs.Bytes.{Laid}
+use Rattle.octets.proofs.Lay.{laid-whole}
 use Rattle.volume.specs.References.{isTreeKindValue}
 use Rattle.group.specs.declared.Slot.{Slot}
 use Rattle.group.specs.declared.Slot.the-variants.{Hole, Word, Refused}
 use Rattle.lookup.specs.Floor.{over}
 use Rattle.lookup.specs.declared.Answer.{Answer}
 use Rattle.lookup.specs.declared.Step.{Step}
-use Rattle.exports.specs.Words.{overAt, room, statusOf, placed, slotWords, floorWords, stepWords, isAsked, pageWords, pageAnswer}
+use Rattle.exports.specs.Words.{room, statusOf, placed, slotWords, floorWords, stepWords, canAsk, pageWords, askedPage}
 
 pub slot-length : (s : Slot) → length (slotWords s) ≡ 4
 slot-length Hole = refl
@@ -37,22 +39,21 @@ placed-as n xs ys out after r l e h =
     let k : length xs ≡ n = ap length e ∙ l in
     (h .0 ∙ rw k, h .1 ∙ ap (λ (zs : List ℕ). placed (room (length zs) out) zs out) e ∙ ap (λ (m : ℕ). placed (room m out) ys out) l)
 
--- two parts, put one behind the other, are put as one
-pub two-puts : (n : ℕ) (u b o : List ℕ) → length u ≡ n → overAt n b (overAt 0 u o) ≡ over (u ++ b) o
-two-puts n u b o e =
-    rw (zero-add, take-at u (drop (length u) o) n e, ← e, drop-append-add u (drop (length u) o) (length b), drop-drop (length b) (length u) o, length-append)
+-- bytes that are laid at the front of what has room for them
+pub laid-over : {xs out after : List ℕ} {r : ℕ} → Laid out 0 xs after r → length xs ≤ length out → after ≡ over xs out
+laid-over {xs} l h = laid-whole l (omega arith) .0 ∙ rw zero-add
 
 pub page-length : (p : Page) → length (pageWords p) ≡ 7
 unfolding pageWords
 page-length p = refl
 
-pub answer-length : (bytes : List ℕ) (block generation : ℕ) (uuid : List ℕ) (kind parent level blocks : ℕ) → length (pageAnswer bytes block generation uuid kind parent level blocks) ≡ 7
-unfolding pageAnswer
+pub answer-length : (bytes : List ℕ) (block generation : ℕ) (uuid : List ℕ) (kind parent level blocks : ℕ) → length (askedPage bytes block generation uuid kind parent level blocks) ≡ 7
+unfolding askedPage
 answer-length bytes block generation uuid kind parent level blocks = page-length _
 
 -- what is asked of a page has a UUID, and a level that fits
-pub asked-fits : (size kind level : ℕ) → isAsked size kind level ≡ true → (size ≡ 16) × (level ≤ 255)
-unfolding isAsked
+pub asked-fits : (size kind level : ℕ) → canAsk size kind level ≡ true → (size ≡ 16) × (level ≤ 255)
+unfolding canAsk
 asked-fits size kind level e =
     let a = eqb size 16 in
     let b = a && isTreeKindValue kind in

@@ -1,9 +1,9 @@
 -- The answers of the C interface, as words of 64 bits in a lent array.
-use Prim.Native.Nat.{ℕ, _+_, _-_}
+use Prim.Native.Nat.{ℕ, _-_}
 use mathlib.Core.Bool.{Bool, _&&_, cond}
 use mathlib.Core.List.{List, [], _∷_, _++_}
 use lib.Dec.{leb, eqb}
-use lib.ListN.{length, take, drop}
+use lib.ListN.{length}
 use Rattle.error.specs.Answer.{checkClass, checkReason}
 use Rattle.group.specs.declared.Slot.{Slot}
 use Rattle.group.specs.Slots.{slotClass, slotReason, presence, wordIn}
@@ -20,10 +20,6 @@ use Rattle.root.specs.declared.Decoded.{Decoded}
 -- a number for a test: 1 where it holds
 abbrev pub flag : Bool → ℕ
 flag b = cond b 1 0
-
--- the list once its elements from a place on are xs; the rest is untouched
-abbrev pub overAt : ℕ → List ℕ → List ℕ → List ℕ
-overAt at xs out = take at out ++ xs ++ drop (at + length xs) out
 
 -- an answer needs n entries of what is lent
 abbrev pub room : ℕ → List ℕ → Bool
@@ -67,15 +63,16 @@ unfoldable pub rootText : Root → List ℕ
 rootText r = r .uuid ++ r .label .bytes
 
 -- what is asked of a page has a UUID of 16 bytes, a kind of 1 to 4, and a level of at most 255
-unfoldable pub isAsked : ℕ → ℕ → ℕ → Bool
-isAsked size kind level = eqb size 16 && isTreeKindValue kind && leb level 255
+unfoldable pub canAsk : ℕ → ℕ → ℕ → Bool
+canAsk size kind level = eqb size 16 && isTreeKindValue kind && leb level 255
 
 -- class, reason, level, total, count, where the payload starts, its length
 unfoldable pub pageWords : Page → List ℕ
 pageWords p = p .class ∷ p .reason ∷ p .level ∷ p .«data_blocks» ∷ p .count ∷ p .start ∷ (p .end - p .start) ∷ []
 
-unfoldable pub pageAnswer : List ℕ → ℕ → ℕ → List ℕ → ℕ → ℕ → ℕ → ℕ → List ℕ
-pageAnswer bytes block generation uuid kind parent level blocks =
+-- the answer on the page that is asked for, in words
+unfoldable pub askedPage : List ℕ → ℕ → ℕ → List ℕ → ℕ → ℕ → ℕ → ℕ → List ℕ
+askedPage bytes block generation uuid kind parent level blocks =
     pageWords (decodePage (record { block = block; generation = generation }) uuid (treeKindOf kind) parent (expectedOf level) blocks bytes)
 
 -- what a page's call answers: 2 for what can't be asked

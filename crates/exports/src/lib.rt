@@ -2,13 +2,13 @@
 // number. Answers of several numbers are written as words at the front of a lent array, or not at all where it has no room for them.
 ghost use mathlib.Core.Path.{_≡_};
 ghost use mathlib.Core.Bool.{_&&_, cond};
-ghost use Prim.Native.Nat.{_+_, _≤_};
+ghost use Prim.Native.Nat.{_≤_};
 ghost use lib.ListN.{length};
 ghost use Rattle.crc.specs.Crc.{extend, crc32c};
 ghost use Rattle.group.specs.Group.{checksumSlot};
-ghost use Rattle.lookup.specs.Floor.{over, answerAt, scratchOf, stepOf};
+ghost use Rattle.lookup.specs.Floor.{over, floorAnswer, scratchOf, nextRecord};
 ghost use Rattle.root.specs.Root.{rootDecode};
-ghost use Rattle.exports.specs.Words.{flag, overAt, room, statusOf, placed, slotWords, floorWords, stepWords, rootWords, rootText, isAsked, pageWords, pageAnswer, pageStatus};
+ghost use Rattle.exports.specs.Words.{flag, room, statusOf, placed, slotWords, floorWords, stepWords, rootWords, rootText, canAsk, pageWords, askedPage, pageStatus};
 use group::Slot;
 use lookup::Answer;
 use lookup::Step;
@@ -46,17 +46,6 @@ fn put_words(words: &[u64], out: &mut [u64])
     let mut i = 0;
     while i < words.len() {
         out[i] = words[i];
-        i += 1;
-    }
-}
-
-fn put_bytes(bytes: &[u8], at: usize, out: &mut [u8])
-    requires { ⌜ at + length (now bytes) ≤ length (now out) ⌝ }
-    ensures { λ _. ⌜ now (out .exit) ≡ overAt at (now (bytes .entry)) (now (out .entry)) ⌝ }
-{
-    let mut i = 0;
-    while i < bytes.len() {
-        out[at + i] = bytes[i];
         i += 1;
     }
 }
@@ -105,7 +94,7 @@ fn step_words(step: Step) -> [u64; 5]
 // The record at the front of a part with so many records left.
 #[no_mangle]
 pub extern "C" fn carryfs_next(part: &[u8], remaining: usize, out: &mut [u64]) -> u32
-    ensures { λ r. ⌜ (r ≡ statusOf (room 5 (now (out .entry)))) × (now (out .exit) ≡ placed (room 5 (now (out .entry))) (stepWords (stepOf (now (part .entry)) remaining)) (now (out .entry))) ⌝ }
+    ensures { λ r. ⌜ (r ≡ statusOf (room 5 (now (out .entry)))) × (now (out .exit) ≡ placed (room 5 (now (out .entry))) (stepWords (nextRecord (now (part .entry)) remaining)) (now (out .entry))) ⌝ }
 {
     let words = step_words(lookup::next_record(part, remaining));
     place(&words, out)
@@ -132,7 +121,7 @@ pub extern "C" fn carryfs_lookup(
     out: &mut [u64],
 ) -> u32
     ensures { λ r. ⌜ r ≡ statusOf (room 4 (now (out .entry))) ⌝ }
-    ensures { λ _. ⌜ now (out .exit) ≡ placed (room 4 (now (out .entry))) (floorWords (answerAt (now (payload .entry)) count (now (key .entry)) (length (now (scratch .entry))))) (now (out .entry)) ⌝ }
+    ensures { λ _. ⌜ now (out .exit) ≡ placed (room 4 (now (out .entry))) (floorWords (floorAnswer (now (payload .entry)) count (now (key .entry)) (length (now (scratch .entry))))) (now (out .entry)) ⌝ }
     ensures { λ _. ⌜ now (scratch .exit) ≡ cond (room 4 (now (out .entry))) (scratchOf (now (payload .entry)) count (now (scratch .entry))) (now (scratch .entry)) ⌝ }
 {
     if out.len() < 4 {
@@ -181,8 +170,8 @@ fn put_text(root: Root, text: &mut [u8])
     let uuid = root.uuid;
     let label = root.label;
     let bytes = label.bytes;
-    put_bytes(&uuid, 0, text);
-    put_bytes(&bytes, 16, text);
+    let behind = octets::put(text, 0, &uuid);
+    octets::put(text, behind, &bytes);
 }
 
 // The root in a slot's block: its numbers in `out`, its UUID and its label's bytes in `text`.
@@ -211,8 +200,8 @@ pub extern "C" fn carryfs_root(
     0
 }
 
-fn is_asked(size: usize, kind: u32, level: u32) -> bool
-    ensures { λ r. ⌜ r ≡ isAsked size kind level ⌝ }
+fn can_ask(size: usize, kind: u32, level: u32) -> bool
+    ensures { λ r. ⌜ r ≡ canAsk size kind level ⌝ }
 {
     (size == 16) & ((1 <= kind) & (kind <= 4)) & (level <= 255)
 }
@@ -231,7 +220,7 @@ fn page_words(page: Page) -> [u64; 7]
     ]
 }
 
-fn page_answer(
+fn asked_page(
     bytes: &[u8],
     block: u64,
     generation: u64,
@@ -242,7 +231,7 @@ fn page_answer(
     blocks: u64,
 ) -> [u64; 7]
     requires { ⌜ (length (now uuid) ≡ 16) × (level ≤ 255) ⌝ }
-    ensures { λ r. ⌜ r ≡ pageAnswer (now (bytes .entry)) block generation (now (uuid .entry)) kind parent level blocks ⌝ }
+    ensures { λ r. ⌜ r ≡ askedPage (now (bytes .entry)) block generation (now (uuid .entry)) kind parent level blocks ⌝ }
 {
     let id = octets::copy16(uuid);
     let reference = TreeRef { block, generation };
@@ -264,12 +253,12 @@ pub extern "C" fn carryfs_page(
     blocks: u64,
     out: &mut [u64],
 ) -> u32
-    ensures { λ r. ⌜ r ≡ pageStatus (isAsked (length (now (uuid .entry))) kind level) (room 7 (now (out .entry))) ⌝ }
-    ensures { λ _. ⌜ now (out .exit) ≡ placed (isAsked (length (now (uuid .entry))) kind level && room 7 (now (out .entry))) (pageAnswer (now (bytes .entry)) block generation (now (uuid .entry)) kind parent level blocks) (now (out .entry)) ⌝ }
+    ensures { λ r. ⌜ r ≡ pageStatus (canAsk (length (now (uuid .entry))) kind level) (room 7 (now (out .entry))) ⌝ }
+    ensures { λ _. ⌜ now (out .exit) ≡ placed (canAsk (length (now (uuid .entry))) kind level && room 7 (now (out .entry))) (askedPage (now (bytes .entry)) block generation (now (uuid .entry)) kind parent level blocks) (now (out .entry)) ⌝ }
 {
-    if !is_asked(uuid.len(), kind, level) {
+    if !can_ask(uuid.len(), kind, level) {
         return 2;
     }
-    let words = page_answer(bytes, block, generation, uuid, kind, parent, level, blocks);
+    let words = asked_page(bytes, block, generation, uuid, kind, parent, level, blocks);
     place(&words, out)
 }

@@ -1,4 +1,4 @@
--- The bitmap: the leading zeros of the code say what `stored` says.
+-- The bitmap: the leading zeros of the code say what `storedSlots` says.
 use mathlib.Core.Path.{_≡_, ap, _∙_}
 use mathlib.Core.List.{List}
 use Prim.Native.Nat.{ℕ, suc, _+_, _-_, _*_, _/_, _%_, _≤_, _<_}

@@ -1,4 +1,4 @@
--- The code's test of the last stored slot says what `stored` says: its bit is set, and none above it.
+-- The code's test of the last stored slot says what `storedSlots` says: its bit is set, and none above it.
 use mathlib.Core.Path.{_≡_, refl, sym, ap, _∙_}
 use mathlib.Core.Bool.{Bool, true, false, not, _&&_}
 use mathlib.Core.List.{List}
@@ -34,7 +34,7 @@ sized n e =
 pub sized-of : (r : Bool) (n : ℕ) → not r ≡ false → r ≡ rightSize n → Sized n
 sized-of r n p e = sized n (yes-of p e)
 
--- the last stored slot, and its byte
+-- the last stored slot
 abbrev pub lastSlot : List ℕ → ℕ
 lastSlot g = (length g - 32) / 4 - 1
 
@@ -95,14 +95,8 @@ module _ (g : List ℕ) (bytes : Bytes g) (m : ℕ) (in-map : m < 256) where
 -- ---- the test as a whole, of a value of a right size
 
 module _ (g : List ℕ) (bytes : Bytes g) (size : Sized (length g)) where
-  m : ℕ
-  m = lastSlot g
-
   in-map : lastSlot g < 256
   in-map = omega (arith, size .long, size .short)
-
-  byte : lastSlot g / 8 < 32
-  byte = omega (arith, in-map)
 
   ends-of : isCompact g ≡ true → storedSlots g ≡ suc (lastSlot g)
   unfolding isCompact

@@ -1,28 +1,23 @@
 -- What `checksum_slot` answers of an accepted group, stored and expanded.
 use mathlib.Core.Path.{_≡_, refl, sym, ap, _∙_}
-use mathlib.Core.Bool.{Bool, true, false, _||_}
+use mathlib.Core.Bool.{Bool, true, false}
 use mathlib.Core.List.{List}
 use Prim.Native.Nat.{ℕ, _+_, _*_, _≤_, _<_}
 use native.Mathlib.Omega.{arith}
-use borrow.Author.Tests.{lt-ltb, le-ltb, le-leb, eqb-true}
-use lib.Dec.{leb, eqb}
+use borrow.Author.Tests.{lt-ltb, le-ltb, le-leb}
 use lib.ListN.{length}
 use Rattle.error.specs.declared.Error.the-variants.{Corrupt}
 use Rattle.error.specs.declared.Validation.{Validation}
 use Rattle.error.specs.Demand.{outcome}
 use Rattle.error.specs.Reason as reason
-use Rattle.error.proofs.Exactly.{all-hold}
-use Rattle.error.proofs.Tests.{and-right}
-use Rattle.octets.specs.Below.{every}
 use Rattle.octets.specs.Bytes.{Bytes}
-use Rattle.octets.specs.Number.{bigAt}
-use Rattle.octets.proofs.Below.{every-at, through-held}
+use Rattle.octets.proofs.Below.{through-held}
 use Rattle.group.specs.declared.Slot.{Slot}
-use Rattle.group.specs.Group.{present, word, storedSlots, storedBytes, holeZero, isCompact, holesZero, rightSize, maxChecksumGroup, checksumSlot, groupDemands, validateChecksumGroup}
+use Rattle.group.specs.Group.{present, word, storedSlots, storedBytes, checksumSlot}
 use Rattle.group.specs.Slots.{presence, wordIn}
 use Rattle.group.specs.Agree.{Accepted}
 use Rattle.group.proofs.Bitmap.{stored-le}
-use Rattle.group.proofs.Compact.{sized}
+use Rattle.group.proofs.Accept.{group-exactly}
 
 -- ---- an accepted group
 
@@ -30,21 +25,13 @@ pub record Good (g : List ℕ) : Type 0 where
   pub bytes : Bytes g
   pub long : 36 ≤ length g
   pub short : length g ≤ 1056
-  pub ends : length g ≡ 32 + 4 * storedSlots g
-  pub holes : every (holeZero g) (storedSlots g) ≡ true
+  pub ends : length g ≡ storedBytes g
+  pub holes : (s : ℕ) → s < storedSlots g → present g s ≡ false → word g s ≡ 0
 
 pub good : (key g : List ℕ) (mode : Validation) → Accepted key g mode → Good g
-unfolding validateChecksumGroup isCompact holesZero
 good key g mode a =
-    let holds = all-hold (groupDemands key g mode) (a .passed) in
-    let size = sized (length g) (and-right (leb (bigAt key 9) maxChecksumGroup) (rightSize (length g)) (holds .1 .0)) in
-    record {
-      bytes = a .bytes;
-      long = size .long;
-      short = size .short;
-      ends = eqb-true (length g) (storedBytes g) (holds .1 .1 .0);
-      holes = holds .1 .1 .1 .0;
-    }
+    let h = group-exactly key g mode .0 (a .passed) in
+    record { bytes = a .bytes; long = h .size .long; short = h .size .short; ends = h .ends; holes = h .holes }
 
 -- ---- a slot
 
@@ -73,14 +60,6 @@ module _ (g : List ℕ) (ok : Good g) (s : ℕ) where
       go true p = ap presence (slot-held g s h (omega (arith, ok .ends, in-stored h p)) p)
       go false p = ap presence (slot-hole g s h (omega (arith, ok .long)) p)
 
-  -- a hole among the stored slots holds zero
-  pub hole-zero : s < storedSlots g → present g s ≡ false → word g s ≡ 0
-  hole-zero l p = go (present g s) (every-at (holeZero g) (storedSlots g) (ok .holes) s l) p
-    where
-      go : (b : Bool) → (b || eqb (word g s) 0) ≡ true → b ≡ false → word g s ≡ 0
-      go true e p = cc
-      go false e p = eqb-true (word g s) 0 e
-
   -- a stored word is what the slot's answer says, of a hole too
   pub slot-word : s < storedSlots g → word g s ≡ wordIn (checksumSlot g s)
   slot-word l = go (present g s) refl
@@ -90,4 +69,4 @@ module _ (g : List ℕ) (ok : Good g) (s : ℕ) where
 
       go : (b : Bool) → present g s ≡ b → word g s ≡ wordIn (checksumSlot g s)
       go true p = sym (ap wordIn (slot-held g s h (omega (arith, ok .ends)) p))
-      go false p = hole-zero l p ∙ sym (ap wordIn (slot-hole g s h (omega (arith, ok .long)) p))
+      go false p = ok .holes s l p ∙ sym (ap wordIn (slot-hole g s h (omega (arith, ok .long)) p))

@@ -16,6 +16,7 @@ pub record Sized (n : ℕ) : Type 0 where
   pub short : n ≤ 1056
   pub whole : (n - 32) % 4 ≡ 0
 
+-- section 6: what holds of an accepted group
 pub record GroupHolds (key value : List ℕ) : Type 0 where
   -- the key holds an index, not above the largest
   pub key-long : 17 ≤ length key
@@ -26,5 +27,6 @@ pub record GroupHolds (key value : List ℕ) : Type 0 where
   -- each hole among the stored slots holds zero
   pub holes : (s : ℕ) → s < storedSlots value → present value s ≡ false → word value s ≡ 0
 
+-- demand 2 for groups, whatever the mode
 abbrev pub GroupExactly : Type 0
 GroupExactly = (key value : List ℕ) (mode : Validation) → (validateChecksumGroup key value mode ≡ Passed) ↔ GroupHolds key value

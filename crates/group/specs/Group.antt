@@ -3,7 +3,7 @@ use Prim.Native.Nat.{ℕ, _+_, _-_, _*_, _/_, _%_, _^_}
 use mathlib.Core.Bool.{Bool, not, _&&_, _||_, cond}
 use mathlib.Core.List.{List, [], _∷_}
 use lib.Dec.{ltb, leb, eqb}
-use lib.ListN.{length, take}
+use lib.ListN.{length}
 use Rattle.error.specs.declared.Error.the-variants.{Corrupt}
 use Rattle.error.specs.declared.Validation.{Validation}
 use Rattle.error.specs.declared.Check.{Check}
@@ -38,12 +38,13 @@ slotDemands g s =
     ∷ (not (present g s) || within g (32 + 4 * s) 4) otherwise Corrupt reason.checksumGroupSlot
     ∷ []
 
+-- section 6: the word of a present slot, or a hole
 unfoldable pub checksumSlot : List ℕ → ℕ → Slot
 checksumSlot g s = outcome (slotDemands g s) Slot.Refused (cond (present g s) (Slot.Word (word g s)) Slot.Hole)
 
--- `compact_group`: the front of the group, of its stored bytes; of another length than 1,056 an empty part
-unfoldable pub compactGroup : List ℕ → List ℕ
-compactGroup g = cond (eqb (length g) 1056) (take (storedBytes g) g) []
+-- `compact_group`: how many bytes of the group's front: those of its stored form; of another length than 1,056 none
+unfoldable pub compactBytes : List ℕ → ℕ
+compactBytes g = cond (eqb (length g) 1056) (storedBytes g) 0
 
 -- `expand_group`: the bytes lent, at most the first 1,056, then zeros
 abbrev pub expandGroup : List ℕ → List ℕ
@@ -78,5 +79,6 @@ groupDemands key value mode =
     ∷ holesZero value otherwise violationOf mode reason.holeChecksumIsNonzero
     ∷ []
 
+-- section 6: the first that fails answers
 unfoldable pub validateChecksumGroup : List ℕ → List ℕ → Validation → Check
 validateChecksumGroup key value mode = demands (groupDemands key value mode)

@@ -1,11 +1,11 @@
 // Checksum groups: 32 bitmap bytes, then up to 256 words. Document 01, section 6.
 ghost use mathlib.Core.Path.{_≡_};
 ghost use mathlib.Core.Bool.{true};
-ghost use Prim.Native.Nat.{_+_, _*_, _≤_};
+ghost use Prim.Native.Nat.{_≤_, _<_};
 ghost use lib.ListN.{length};
-ghost use denote.Ref.{ptr};
 ghost use Rattle.octets.specs.Below.{every};
-ghost use Rattle.group.specs.Group.{checksumSlot, compactGroup, expandGroup, validateChecksumGroup, storedSlots, rightSize, isCompact, holeZero, holesZero};
+ghost use Rattle.octets.specs.Bytes.{IsPart};
+ghost use Rattle.group.specs.Group.{checksumSlot, compactBytes, expandGroup, validateChecksumGroup, storedSlots, rightSize, isCompact, holeZero, holesZero};
 ghost use Rattle.group.specs.Accept.{Sized};
 use error::Check;
 use error::Error;
@@ -61,8 +61,7 @@ fn stored_slots(group: &[u8]) -> usize
 
 // The stored form of a group: its bitmap and the slots through the last present one.
 pub fn compact_group(group: &[u8]) -> &[u8]
-    ensures { λ r. ⌜ now r ≡ compactGroup (now (group .entry)) ⌝ }
-    ensures { λ r. ⌜ ptr r ≡ ptr (group .entry) ⌝ }
+    ensures { λ r. ⌜ IsPart (group .entry) 0 (compactBytes (now (group .entry))) r ⌝ }
 {
     if group.len() != CHECKSUM_GROUP_BYTES {
         return &group[..0];
@@ -76,14 +75,7 @@ pub fn expand_group(value: &[u8]) -> [u8; 1056]
     ensures { λ r. ⌜ r ≡ expandGroup (now (value .entry)) ⌝ }
 {
     let mut group = [0u8; 1056];
-    let mut i = 0;
-    while i < CHECKSUM_GROUP_BYTES {
-        if value.len() <= i {
-            return group;
-        }
-        group[i] = value[i];
-        i += 1;
-    }
+    octets::put(&mut group, 0, value);
     group
 }
 
@@ -113,17 +105,26 @@ fn is_compact(value: &[u8]) -> bool
     octets::all_zero(&value[next..32])
 }
 
+// Whether a slot is present or holds zero.
+fn hole_zero(group: &[u8], slot: usize) -> bool
+    requires { ⌜ (32 ≤ length (now group)) × (slot < 256) ⌝ }
+    ensures { λ r. ⌜ r ≡ holeZero (now (group .entry)) slot ⌝ }
+{
+    if group[slot / 8] & (1 << (slot % 8)) != 0 {
+        return true;
+    }
+    octets::u32_at(group, 32 + 4 * slot) == 0
+}
+
 // Whether each hole among the first slots holds zero.
 fn first_holes_zero(group: &[u8], count: usize) -> bool
-    requires { ⌜ (32 + 4 * count ≤ length (now group)) × (count ≤ 256) ⌝ }
+    requires { ⌜ (32 ≤ length (now group)) × (count ≤ 256) ⌝ }
     ensures { λ r. ⌜ r ≡ every (holeZero (now (group .entry))) count ⌝ }
 {
     let mut s = 0;
     while s < count {
-        if group[s / 8] & (1 << (s % 8)) == 0 {
-            if octets::u32_at(group, 32 + 4 * s) != 0 {
-                return false;
-            }
+        if !hole_zero(group, s) {
+            return false;
         }
         s += 1;
     }

@@ -2,10 +2,10 @@
 use mathlib.Core.Path.{refl}
 use Rattle.octets.specs.Number.{field}
 use Rattle.octets.specs.Order.{order}
-use Rattle.lookup.specs.Record.{split, look}
-use Rattle.lookup.specs.Floor.{written, unbroken, bisect, walk, floorOf}
+use Rattle.lookup.specs.Record.{splitRecord, lookAt}
+use Rattle.lookup.specs.Floor.{written, unbroken, bisect, walkFloor, floorAt}
 use Rattle.lookup.specs.Cases.{cases, CasesHold}
 
 pub cases-hold : CasesHold
-unfolding cases floorOf written unbroken bisect walk split look order field
+unfolding cases floorAt written unbroken bisect walkFloor splitRecord lookAt order field
 cases-hold = (refl, refl)

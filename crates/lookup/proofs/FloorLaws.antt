@@ -7,8 +7,8 @@ use native.Mathlib.Omega.{arith}
 use lib.Dec.{ltb}
 use lib.ListN.{length, getD, drop, length-drop, List·getD-append}
 use borrow.Author.Tests.{lt-ltb, le-ltb, ltb-true}
-use Rattle.lookup.specs.Record.{split, isRecord}
-use Rattle.lookup.specs.Floor.{next, written, unbroken, over, above, bisect, before, walk, floorOf, scratchOf}
+use Rattle.lookup.specs.Record.{splitRecord, isRecord}
+use Rattle.lookup.specs.Floor.{next, written, unbroken, over, aboveAt, bisect, before, walkFloor, floorAt, scratchOf}
 use Rattle.lookup.specs.declared.Split.{Split}
 use Rattle.lookup.specs.declared.Split.the-variants.{Record, Broken}
 use Rattle.lookup.specs.declared.Floor.{Floor}
@@ -19,29 +19,29 @@ use Rattle.lookup.proofs.RecordLaws.{split-fits}
 module _ (part : List ℕ) where
   -- the next record starts in the part
   pub next-within : (p : ℕ) → p ≤ length part → next part p ≤ length part
-  next-within p l = go (split (drop p part)) refl
+  next-within p l = go (splitRecord (drop p part)) refl
     where
-      go : (r : Split) → split (drop p part) ≡ r → next part p ≤ length part
+      go : (r : Split) → splitRecord (drop p part) ≡ r → next part p ≤ length part
       go (Record k v) e = rw e (omega (arith, split-fits (drop p part) k v e, length-drop p part))
       go Broken e = rw e (omega arith)
 
   pub written-length : (n p : ℕ) → unbroken part n p ≡ true → length (written part n p) ≡ n
   unfolding written unbroken
   written-length zero p u = refl
-  written-length (suc n) p u = go (isRecord (split (drop p part))) (written-length n (next part p)) u
+  written-length (suc n) p u = go (isRecord (splitRecord (drop p part))) (written-length n (next part p)) u
     where
       go : (b : Bool) → (unbroken part n (next part p) ≡ true → length (written part n (next part p)) ≡ n) → (b && unbroken part n (next part p)) ≡ true → suc (length (cond b (written part n (next part p)) [])) ≡ suc n
       go true h e = ap suc (h e)
       go false h e = let z : _≡_ {A = ℕ} 0 1 = cc in absurd (omega arith)
 
   -- where none is broken, each offset that is written is a record's
-  pub written-whole : (n p k : ℕ) → unbroken part n p ≡ true → k < n → isRecord (split (drop (getD (written part n p) k 0) part)) ≡ true
+  pub written-whole : (n p k : ℕ) → unbroken part n p ≡ true → k < n → isRecord (splitRecord (drop (getD (written part n p) k 0) part)) ≡ true
   unfolding written unbroken
   written-whole zero p k u l = absurd (omega arith)
-  written-whole (suc n) p zero u l = and-left (isRecord (split (drop p part))) (unbroken part n (next part p)) u
+  written-whole (suc n) p zero u l = and-left (isRecord (splitRecord (drop p part))) (unbroken part n (next part p)) u
   written-whole (suc n) p (suc k) u l =
-      rw (and-left (isRecord (split (drop p part))) (unbroken part n (next part p)) u)
-      (written-whole n (next part p) k (and-right (isRecord (split (drop p part))) (unbroken part n (next part p)) u) (omega arith))
+      rw (and-left (isRecord (splitRecord (drop p part))) (unbroken part n (next part p)) u)
+      (written-whole n (next part p) k (and-right (isRecord (splitRecord (drop p part))) (unbroken part n (next part p)) u) (omega arith))
 
 module _ (part key o q : List ℕ) (n : ℕ) (same : (k : ℕ) → k < n → getD o k 0 ≡ getD q k 0) where
   -- a bisection reads the offsets below its end alone
@@ -53,8 +53,8 @@ module _ (part key o q : List ℕ) (n : ℕ) (same : (k : ℕ) → k < n → get
       go : (b : Bool) → ltb low high ≡ b
           → ((low + high) / 2 ≤ n → bisect part key o f low ((low + high) / 2) ≡ bisect part key q f low ((low + high) / 2))
           → bisect part key o f ((low + high) / 2 + 1) high ≡ bisect part key q f ((low + high) / 2 + 1) high
-          → cond b (cond (above part key (getD o ((low + high) / 2) 0)) (bisect part key o f low ((low + high) / 2)) (bisect part key o f ((low + high) / 2 + 1) high)) low
-          ≡ cond b (cond (above part key (getD q ((low + high) / 2) 0)) (bisect part key q f low ((low + high) / 2)) (bisect part key q f ((low + high) / 2 + 1) high)) low
+          → cond b (cond (aboveAt part key (getD o ((low + high) / 2) 0)) (bisect part key o f low ((low + high) / 2)) (bisect part key o f ((low + high) / 2 + 1) high)) low
+          ≡ cond b (cond (aboveAt part key (getD q ((low + high) / 2) 0)) (bisect part key q f low ((low + high) / 2)) (bisect part key q f ((low + high) / 2 + 1) high)) low
       go true t down up =
           let h : low < high = ltb-true low high t in
           let m : (low + high) / 2 < n = omega arith in
@@ -70,8 +70,8 @@ bisect-between part key o (suc f) low high l = go (ltb low high) refl (bisect-be
     go : (b : Bool) → ltb low high ≡ b
         → (low ≤ (low + high) / 2 → bisect part key o f low ((low + high) / 2) ≤ (low + high) / 2)
         → ((low + high) / 2 + 1 ≤ high → bisect part key o f ((low + high) / 2 + 1) high ≤ high)
-        → cond b (cond (above part key (getD o ((low + high) / 2) 0)) (bisect part key o f low ((low + high) / 2)) (bisect part key o f ((low + high) / 2 + 1) high)) low ≤ high
-    go true t down up = there (above part key (getD o ((low + high) / 2) 0))
+        → cond b (cond (aboveAt part key (getD o ((low + high) / 2) 0)) (bisect part key o f low ((low + high) / 2)) (bisect part key o f ((low + high) / 2 + 1) high)) low ≤ high
+    go true t down up = there (aboveAt part key (getD o ((low + high) / 2) 0))
       where
         h : low < high
         h = ltb-true low high t
@@ -92,13 +92,13 @@ before-agree o q n i same l = go (ltb 0 i) refl
     go false t = refl
 
 module _ (part : List ℕ) (count : ℕ) (key scratch : List ℕ) where
-  pub floor-large : 65535 < length part → (Nothing ≡ floorOf part count key (length scratch)) × (scratch ≡ scratchOf part count scratch)
-  unfolding floorOf scratchOf
+  pub floor-large : 65535 < length part → (Nothing ≡ floorAt part count key (length scratch)) × (scratch ≡ scratchOf part count scratch)
+  unfolding floorAt scratchOf
   floor-large l = (rw (lt-ltb 65535 (length part) l), rw (lt-ltb 65535 (length part) l))
 
   module _ (small : length part ≤ 65535) where
-    pub floor-walk : length scratch < count → (walk part key count 0 0 Nothing ≡ floorOf part count key (length scratch)) × (scratch ≡ scratchOf part count scratch)
-    unfolding floorOf scratchOf
+    pub floor-walk : length scratch < count → (walkFloor part key count 0 0 Nothing ≡ floorAt part count key (length scratch)) × (scratch ≡ scratchOf part count scratch)
+    unfolding floorAt scratchOf
     floor-walk l = (rw (le-ltb 65535 (length part) small, lt-ltb (length scratch) count l), rw (le-ltb 65535 (length part) small, lt-ltb (length scratch) count l))
 
     module _ (room : count ≤ length scratch) where
@@ -106,8 +106,8 @@ module _ (part : List ℕ) (count : ℕ) (key scratch : List ℕ) where
       unfolding scratchOf
       scratch-filled = rw (le-ltb 65535 (length part) small, le-ltb (length scratch) count room)
 
-      pub floor-broken : unbroken part count 0 ≡ false → Nothing ≡ floorOf part count key (length scratch)
-      unfolding floorOf
+      pub floor-broken : unbroken part count 0 ≡ false → Nothing ≡ floorAt part count key (length scratch)
+      unfolding floorAt
       floor-broken u = rw (le-ltb 65535 (length part) small, le-ltb (length scratch) count room, u)
 
       module _ (u : unbroken part count 0 ≡ true) where
@@ -115,31 +115,31 @@ module _ (part : List ℕ) (count : ℕ) (key scratch : List ℕ) where
         pub filled-at : (k : ℕ) → k < count → getD (over (written part count 0) scratch) k 0 ≡ getD (written part count 0) k 0
         filled-at k l = List·getD-append (written part count 0) _ 0 k (omega (arith, written-length part count 0 u))
 
-        pub filled-whole : (k : ℕ) → k < count → isRecord (split (drop (getD (over (written part count 0) scratch) k 0) part)) ≡ true
+        pub filled-whole : (k : ℕ) → k < count → isRecord (splitRecord (drop (getD (over (written part count 0) scratch) k 0) part)) ≡ true
         filled-whole k l = rw (filled-at k l) (written-whole part count 0 k u l)
 
-        pub floor-bisect : before (over (written part count 0) scratch) (bisect part key (over (written part count 0) scratch) count 0 count) ≡ floorOf part count key (length scratch)
-        unfolding floorOf
+        pub floor-bisect : before (over (written part count 0) scratch) (bisect part key (over (written part count 0) scratch) count 0 count) ≡ floorAt part count key (length scratch)
+        unfolding floorAt
         floor-bisect =
             rw (le-ltb 65535 (length part) small, le-ltb (length scratch) count room, u, bisect-agree part key (over (written part count 0) scratch) (written part count 0) count filled-at count 0 count (omega arith))
             (before-agree (over (written part count 0) scratch) (written part count 0) count (bisect part key (written part count 0) count 0 count) filled-at (bisect-between part key (written part count 0) count 0 count (omega arith)))
 
 -- a record that a lookup finds is one of the part's
-pub walk-index : (part key : List ℕ) (m n p j : ℕ) (found : Floor) → ((i o : ℕ) → found ≡ At i o → i < m) → j + n ≤ m → (i o : ℕ) → walk part key n p j found ≡ At i o → i < m
-unfolding walk
+pub walk-index : (part key : List ℕ) (m n p j : ℕ) (found : Floor) → ((i o : ℕ) → found ≡ At i o → i < m) → j + n ≤ m → (i o : ℕ) → walkFloor part key n p j found ≡ At i o → i < m
+unfolding walkFloor
 walk-index part key m zero p j found f l i o e = f i o e
 walk-index part key m (suc n) p j found f l i o e =
-    go (above part key p) (walk-index part key m n (next part p) (j + 1) (At j p) here (omega arith) i o) e
+    go (aboveAt part key p) (walk-index part key m n (next part p) (j + 1) (At j p) here (omega arith) i o) e
   where
     here : (i o : ℕ) → At j p ≡ At i o → i < m
     here i o e = let g : j ≡ i = cc in omega arith
 
-    go : (b : Bool) → (walk part key n (next part p) (j + 1) (At j p) ≡ At i o → i < m) → cond b found (walk part key n (next part p) (j + 1) (At j p)) ≡ At i o → i < m
+    go : (b : Bool) → (walkFloor part key n (next part p) (j + 1) (At j p) ≡ At i o → i < m) → cond b found (walkFloor part key n (next part p) (j + 1) (At j p)) ≡ At i o → i < m
     go true h e = f i o e
     go false h e = h e
 
-pub floor-index : (part : List ℕ) (count : ℕ) (key : List ℕ) (entries i o : ℕ) → floorOf part count key entries ≡ At i o → i < count
-unfolding floorOf
+pub floor-index : (part : List ℕ) (count : ℕ) (key : List ℕ) (entries i o : ℕ) → floorAt part count key entries ≡ At i o → i < count
+unfolding floorAt
 floor-index part count key entries i o e = go (ltb 65535 (length part)) (ltb entries count) (unbroken part count 0) e
   where
     never : (i o m : ℕ) → Nothing ≡ At i o → i < m
@@ -154,7 +154,7 @@ floor-index part count key entries i o e = go (ltb 65535 (length part)) (ltb ent
         omega (arith, ltb-true 0 b q, bisect-between part key (written part count 0) count 0 count (omega arith))
     there false q e = never i o count e
 
-    go : (x y z : Bool) → cond x Nothing (cond y (walk part key count 0 0 Nothing) (cond z (before (written part count 0) (bisect part key (written part count 0) count 0 count)) Nothing)) ≡ At i o → i < count
+    go : (x y z : Bool) → cond x Nothing (cond y (walkFloor part key count 0 0 Nothing) (cond z (before (written part count 0) (bisect part key (written part count 0) count 0 count)) Nothing)) ≡ At i o → i < count
     go true y z e = never i o count e
     go false true z e = walk-index part key count count 0 0 Nothing (λ i o. never i o count) (omega arith) i o e
     go false false true e = there (ltb 0 b) refl e

@@ -12,37 +12,37 @@ use Rattle.octets.specs.Bytes.{byteAt, part}
 use Rattle.octets.specs.Number.{field, u16At}
 use Rattle.octets.proofs.Join.{field-join, field-one}
 use Rattle.octets.specs.Order.{order, isGreater}
-use Rattle.lookup.specs.Record.{keyLen, valueLen, recordLen, split, isRecord, sizeOf, isAbove, look, keyOf}
-use Rattle.lookup.specs.Inside.{endSplit, endOf}
+use Rattle.lookup.specs.Record.{keyLen, valueLen, recordLen, splitRecord, isRecord, sizeOf, isAbove, lookAt, keyOf}
+use Rattle.lookup.specs.Inside.{endSplit, recordEnd}
 use Rattle.lookup.specs.declared.Split.{Split}
 use Rattle.lookup.specs.declared.Split.the-variants.{Record, Broken}
 use Rattle.lookup.specs.declared.End.{End}
 use Rattle.lookup.specs.declared.Look.the-variants.{Above, Size}
 
-pub split-short : (s : List ℕ) → length s < 4 → Broken ≡ split s
-unfolding split
+pub split-short : (s : List ℕ) → length s < 4 → Broken ≡ splitRecord s
+unfolding splitRecord
 split-short s l = rw (lt-leb (recordLen s) (length s) (omega arith))
 
 module _ (s : List ℕ) (k v : ℕ) where
-  pub split-broken : k ≡ keyLen s → v ≡ valueLen s → length s < 4 + k + v → Broken ≡ split s
-  unfolding split
+  pub split-broken : k ≡ keyLen s → v ≡ valueLen s → length s < 4 + k + v → Broken ≡ splitRecord s
+  unfolding splitRecord
   split-broken p q l = rw (lt-leb (recordLen s) (length s) (omega arith))
 
-  pub split-record : k ≡ keyLen s → v ≡ valueLen s → 4 + k + v ≤ length s → Record k v ≡ split s
-  unfolding split
+  pub split-record : k ≡ keyLen s → v ≡ valueLen s → 4 + k + v ≤ length s → Record k v ≡ splitRecord s
+  unfolding splitRecord
   split-record p q l = rw (le-leb (recordLen s) (length s) (omega arith), p, q)
 
 -- a whole record, as the tests tell it
-pub record-is : (s : List ℕ) → isRecord (split s) ≡ true → split s ≡ Record (keyLen s) (valueLen s)
-unfolding split
+pub record-is : (s : List ℕ) → isRecord (splitRecord s) ≡ true → splitRecord s ≡ Record (keyLen s) (valueLen s)
+unfolding splitRecord
 record-is s e = go (leb (recordLen s) (length s)) e
   where
     go : (b : Bool) → isRecord (cond b (Record (keyLen s) (valueLen s)) Broken) ≡ true → cond b (Record (keyLen s) (valueLen s)) Broken ≡ Record (keyLen s) (valueLen s)
     go true e = refl
     go false e = let z : _≡_ {A = ℕ} 0 1 = cc in absurd (omega arith)
 
-pub split-fits : (s : List ℕ) (k v : ℕ) → split s ≡ Record k v → 4 + k + v ≤ length s
-unfolding split
+pub split-fits : (s : List ℕ) (k v : ℕ) → splitRecord s ≡ Record k v → 4 + k + v ≤ length s
+unfolding splitRecord
 split-fits s k v e = go (leb (recordLen s) (length s)) refl e
   where
     go : (b : Bool) → leb (recordLen s) (length s) ≡ b → cond b (Record (keyLen s) (valueLen s)) Broken ≡ Record k v → 4 + k + v ≤ length s
@@ -54,33 +54,33 @@ split-fits s k v e = go (leb (recordLen s) (length s)) refl e
 
 -- a look at the start of s, where r is what splitting it gave and t is whether the key of k bytes is above the sought one
 module _ (s key : List ℕ) (r : Split) where
-  pub look-above : (k v : ℕ) (t : Bool) → r ≡ split s → r ≡ Record k v → t ≡ isGreater (order (part s 4 (4 + k - 4)) key) → t ≡ true → Above ≡ look s key
-  unfolding look
+  pub look-above : (k v : ℕ) (t : Bool) → r ≡ splitRecord s → r ≡ Record k v → t ≡ isGreater (order (part s 4 (4 + k - 4)) key) → t ≡ true → Above ≡ lookAt s key
+  unfolding lookAt
   look-above k v t p q f g =
       let n : 4 + k - 4 ≡ k = omega arith in
       let h : isGreater (order (part s 4 k) key) ≡ true = (rw n at (sym f)) ∙ g in
       rw (sym p ∙ q, h)
 
-  pub look-size : (k v : ℕ) (t : Bool) → r ≡ split s → r ≡ Record k v → t ≡ isGreater (order (part s 4 (4 + k - 4)) key) → t ≡ false → Size (4 + k + v) ≡ look s key
-  unfolding look
+  pub look-size : (k v : ℕ) (t : Bool) → r ≡ splitRecord s → r ≡ Record k v → t ≡ isGreater (order (part s 4 (4 + k - 4)) key) → t ≡ false → Size (4 + k + v) ≡ lookAt s key
+  unfolding lookAt
   look-size k v t p q f g =
       let n : 4 + k - 4 ≡ k = omega arith in
       let h : isGreater (order (part s 4 k) key) ≡ false = (rw n at (sym f)) ∙ g in
       rw (sym p ∙ q, h)
 
-  pub look-broken : r ≡ split s → r ≡ Broken → Above ≡ look s key
-  unfolding look
+  pub look-broken : r ≡ splitRecord s → r ≡ Broken → Above ≡ lookAt s key
+  unfolding lookAt
   look-broken p q = rw (sym p ∙ q)
 
 -- where a record is not above the key, it takes as many bytes as the look says, and they are there
-pub look-is : (s key : List ℕ) (z : ℕ) → look s key ≡ Size z → (sizeOf (split s) ≡ z) × (z ≤ length s)
-unfolding look
-look-is s key z e = go (split s) refl
+pub look-is : (s key : List ℕ) (z : ℕ) → lookAt s key ≡ Size z → (sizeOf (splitRecord s) ≡ z) × (z ≤ length s)
+unfolding lookAt
+look-is s key z e = go (splitRecord s) refl
   where
-    go : (r : Split) → split s ≡ r → (sizeOf (split s) ≡ z) × (z ≤ length s)
+    go : (r : Split) → splitRecord s ≡ r → (sizeOf (splitRecord s) ≡ z) × (z ≤ length s)
     go (Record k v) p = there (isGreater (order (take k (drop 4 s)) key)) refl
       where
-        there : (b : Bool) → isGreater (order (take k (drop 4 s)) key) ≡ b → (sizeOf (split s) ≡ z) × (z ≤ length s)
+        there : (b : Bool) → isGreater (order (take k (drop 4 s)) key) ≡ b → (sizeOf (splitRecord s) ≡ z) × (z ≤ length s)
         there true q =
             let f : Above ≡ Size z = rw (p, q) at e in
             let g : _≡_ {A = ℕ} 0 1 = cc in
@@ -95,22 +95,22 @@ look-is s key z e = go (split s) refl
         (omega arith, omega arith)
 
 -- ---- a whole record at a place of a part
-pub above-is : (s key : List ℕ) → isRecord (split s) ≡ true → isAbove (look s key) ≡ isGreater (order (keyOf s) key)
-unfolding look
+pub above-is : (s key : List ℕ) → isRecord (splitRecord s) ≡ true → isAbove (lookAt s key) ≡ isGreater (order (keyOf s) key)
+unfolding lookAt
 above-is s key e = rw (record-is s e) (go (isGreater (order (keyOf s) key)))
   where
     go : (b : Bool) → isAbove (cond b Above (Size (recordLen s))) ≡ b
     go true = refl
     go false = refl
 
-module _ (s key : List ℕ) (at : ℕ) (whole : isRecord (split (drop at s)) ≡ true) where
+module _ (s key : List ℕ) (at : ℕ) (whole : isRecord (splitRecord (drop at s)) ≡ true) where
   pub whole-fits : at + 4 + u16At s at ≤ length s
   unfolding field
   whole-fits = omega (arith, split-fits (drop at s) (keyLen (drop at s)) (valueLen (drop at s)) (record-is (drop at s) whole), length-drop at s)
 
-  pub key-above-at : (k : ℕ) (r : Bool) → k ≡ u16At s at → r ≡ isGreater (order (part s (at + 4) (at + 4 + k - (at + 4))) key) → r ≡ isAbove (look (drop at s) key)
+  pub above-at-is : (k : ℕ) (r : Bool) → k ≡ u16At s at → r ≡ isGreater (order (part s (at + 4) (at + 4 + k - (at + 4))) key) → r ≡ isAbove (lookAt (drop at s) key)
   unfolding field
-  key-above-at k r e p =
+  above-at-is k r e p =
       let n : at + 4 + k - (at + 4) ≡ k = omega arith in
       p ∙ rw (n, e, ← drop-drop 4 at s) (sym (above-is (drop at s) key whole))
 
@@ -119,8 +119,8 @@ pub two-bytes : (s : List ℕ) (i : ℕ) → i + 2 ≤ length s → byteAt s i +
 two-bytes s i h = omega (arith, field-join 1 1 s i (omega arith), field-one s i (omega arith), field-one s (i + 1) (omega arith))
 
 module _ (s : List ℕ) (at : ℕ) (within : at ≤ length s) where
-  pub end-short : length s < at + 4 → End.Broken ≡ endOf s at
-  unfolding endOf
+  pub end-short : length s < at + 4 → End.Broken ≡ recordEnd s at
+  unfolding recordEnd
   end-short h = rw (← split-short (drop at s) (rw length-drop (omega arith)))
 
   module _ (k v : ℕ) (is : k ≡ u16At s at) (is′ : v ≡ u16At s (at + 2)) where
@@ -129,25 +129,25 @@ module _ (s : List ℕ) (at : ℕ) (within : at ≤ length s) where
     unfolding field
     lengths = (is, is′ ∙ rw (drop-drop 2 at s))
 
-    pub end-broken : length s < at + 4 + k + v → End.Broken ≡ endOf s at
-    unfolding endOf
+    pub end-broken : length s < at + 4 + k + v → End.Broken ≡ recordEnd s at
+    unfolding recordEnd
     end-broken h = rw (← split-broken (drop at s) k v (lengths .0) (lengths .1) (rw length-drop (omega arith)))
 
-    pub end-at : at + 4 + k + v ≤ length s → End.At (at + 4 + k + v) ≡ endOf s at
-    unfolding endOf
+    pub end-at : at + 4 + k + v ≤ length s → End.At (at + 4 + k + v) ≡ recordEnd s at
+    unfolding recordEnd
     end-at h = rw (← split-record (drop at s) k v (lengths .0) (lengths .1) (rw length-drop (omega arith))) (ap End.At (omega arith))
 
-pub end-is-at : (s : List ℕ) (at e : ℕ) → endOf s at ≡ End.At e → (e ≡ at + sizeOf (split (drop at s))) × (isRecord (split (drop at s)) ≡ true)
-unfolding endOf
-end-is-at s at e p = go (split (drop at s)) p
+pub end-is-at : (s : List ℕ) (at e : ℕ) → recordEnd s at ≡ End.At e → (e ≡ at + sizeOf (splitRecord (drop at s))) × (isRecord (splitRecord (drop at s)) ≡ true)
+unfolding recordEnd
+end-is-at s at e p = go (splitRecord (drop at s)) p
   where
     go : (r : Split) → endSplit at r ≡ End.At e → (e ≡ at + sizeOf r) × (isRecord r ≡ true)
     go (Record k v) q = let g : at + (4 + k + v) ≡ e = cc in (sym g, refl)
     go Broken q = let z : _≡_ {A = ℕ} 0 1 = cc in absurd (omega arith)
 
-pub end-is-broken : (s : List ℕ) (at : ℕ) → endOf s at ≡ End.Broken → split (drop at s) ≡ Broken
-unfolding endOf
-end-is-broken s at p = go (split (drop at s)) p
+pub end-is-broken : (s : List ℕ) (at : ℕ) → recordEnd s at ≡ End.Broken → splitRecord (drop at s) ≡ Broken
+unfolding recordEnd
+end-is-broken s at p = go (splitRecord (drop at s)) p
   where
     go : (r : Split) → endSplit at r ≡ End.Broken → r ≡ Broken
     go (Record k v) q = let z : _≡_ {A = ℕ} 0 1 = cc in absurd (omega arith)

@@ -1,6 +1,6 @@
 -- For keys that strictly increase, the bisection and the walk both find the last record whose key is not above the sought one, whatever the scratch.
 use mathlib.Core.Path.{_≡_, refl, sym, _∙_, ap, ap₂}
-use mathlib.Core.Bool.{Bool, true, false, cond}
+use mathlib.Core.Bool.{Bool, true, false, cond, true≢false}
 use mathlib.Core.List.{List}
 use Prim.Native.Nat.{ℕ, zero, suc, _+_, _-_, _/_, _<_, _≤_}
 use native.Mathlib.Decide.{decLt}
@@ -10,8 +10,8 @@ use lib.Dec.{ltb}
 use lib.ListN.{length, getD, drop}
 use borrow.Author.Tests.{lt-ltb, le-ltb, ltb-true, ltb-false}
 use Rattle.octets.specs.Order.{order, isGreater}
-use Rattle.lookup.specs.Floor.{next, written, unbroken, above, bisect, before, walk, floorOf}
-use Rattle.lookup.specs.Sorted.{offsetOf, keyAt, Sorted, keyAbove, Answers, FloorIsTheLast, WalkingIsHalving}
+use Rattle.lookup.specs.Floor.{next, written, unbroken, aboveAt, bisect, before, walkFloor, floorAt}
+use Rattle.lookup.specs.Sorted.{offsetOf, keyAt, Sorted, keyAbove, IsFloor, FloorIsTheLast, WalkingIsHalving}
 use Rattle.lookup.specs.declared.Look
 use Rattle.lookup.specs.declared.Floor.{Floor}
 use Rattle.lookup.specs.declared.Floor.the-variants.{At, Nothing}
@@ -27,7 +27,7 @@ pub record Boundary (up : ℕ → Bool) (count b : ℕ) : Type 0 where
 module _ (part key : List ℕ) (count : ℕ) (sorted : Sorted part count) where
   -- the record k is above the key
   abbrev up : ℕ → Bool
-  up k = above part key (offsetOf part k)
+  up k = aboveAt part key (offsetOf part k)
 
   up-is : (k : ℕ) → k < count → up k ≡ keyAbove part key k
   up-is k l = above-is (drop (offsetOf part k) part) key (sorted .whole k l)
@@ -69,7 +69,7 @@ module _ (part key : List ℕ) (count : ℕ) (sorted : Sorted part count) where
         go : (b : Bool) → ltb low high ≡ b
             → (mid - low ≤ fuel → low ≤ mid → mid ≤ count → ((k : ℕ) → k < low → up k ≡ false) → ((k : ℕ) → mid ≤ k → k < count → up k ≡ true) → Boundary up count (bisect part key offs fuel low mid))
             → (high - (mid + 1) ≤ fuel → mid + 1 ≤ high → high ≤ count → ((k : ℕ) → k < mid + 1 → up k ≡ false) → ((k : ℕ) → high ≤ k → k < count → up k ≡ true) → Boundary up count (bisect part key offs fuel (mid + 1) high))
-            → Boundary up count (cond b (cond (above part key (getD offs mid 0)) (bisect part key offs fuel low mid) (bisect part key offs fuel (mid + 1) high)) low)
+            → Boundary up count (cond b (cond (aboveAt part key (getD offs mid 0)) (bisect part key offs fuel low mid) (bisect part key offs fuel (mid + 1) high)) low)
         go true t down more = rw (are mid (omega (arith, ltb-true low high t))) (there (up mid) refl)
           where
             there : (b : Bool) → up mid ≡ b → Boundary up count (cond b (bisect part key offs fuel low mid) (bisect part key offs fuel (mid + 1) high))
@@ -78,10 +78,10 @@ module _ (part key : List ℕ) (count : ℕ) (sorted : Sorted part count) where
         go false t down more = record { within = omega arith; below = lo; from = λ k p q. hi k (omega (arith, ltb-false low high t)) q }
 
     -- the record before a boundary answers
-    answers : (b : ℕ) → Boundary up count b → Answers part count key (before offs b)
+    answers : (b : ℕ) → Boundary up count b → IsFloor part count key (before offs b)
     answers b h = go (ltb 0 b) refl
       where
-        go : (t : Bool) → ltb 0 b ≡ t → Answers part count key (cond t (At (b - 1) (getD offs (b - 1) 0)) Nothing)
+        go : (t : Bool) → ltb 0 b ≡ t → IsFloor part count key (cond t (At (b - 1) (getD offs (b - 1) 0)) Nothing)
         go true t =
             let p : 0 < b = ltb-true 0 b t in
             let w = h .within in
@@ -116,31 +116,31 @@ module _ (part key : List ℕ) (count : ℕ) (sorted : Sorted part count) where
       let e : j + 1 - 1 ≡ j = omega arith in
       rw (lt-ltb 0 (j + 1) (omega arith), e)
 
-  walk-bound : (n j : ℕ) → j + n ≡ count → ((k : ℕ) → k < j → up k ≡ false) → (b : ℕ) × Boundary up count b × (walk part key n (offsetOf part j) j (last j) ≡ last b)
-  unfolding walk
+  walk-bound : (n j : ℕ) → j + n ≡ count → ((k : ℕ) → k < j → up k ≡ false) → (b : ℕ) × Boundary up count b × (walkFloor part key n (offsetOf part j) j (last j) ≡ last b)
+  unfolding walkFloor
   walk-bound zero j e lo = (j, record { within = omega arith; below = lo; from = λ k p q. absurd (omega arith) }, refl)
   walk-bound (suc n) j e lo = go (up j) refl (walk-bound n (j + 1) (omega arith))
     where
       go : (b : Bool) → up j ≡ b
-          → (((k : ℕ) → k < j + 1 → up k ≡ false) → (b : ℕ) × Boundary up count b × (walk part key n (offsetOf part (j + 1)) (j + 1) (last (j + 1)) ≡ last b))
-          → (c : ℕ) × Boundary up count c × (cond b (last j) (walk part key n (next part (offsetOf part j)) (j + 1) (At j (offsetOf part j))) ≡ last c)
+          → (((k : ℕ) → k < j + 1 → up k ≡ false) → (b : ℕ) × Boundary up count b × (walkFloor part key n (offsetOf part (j + 1)) (j + 1) (last (j + 1)) ≡ last b))
+          → (c : ℕ) × Boundary up count c × (cond b (last j) (walkFloor part key n (next part (offsetOf part j)) (j + 1) (At j (offsetOf part j))) ≡ last c)
       go true t more = (j, record { within = omega arith; below = lo; from = λ k p q. up-from j k p q t }, refl)
       go false t more =
           let r = more (λ k p. up-below k j (omega arith) (omega arith) t) in
           (r .0, r .1, rw (offset-next j, last-next j) (r .2))
 
   -- ---- the lookup, whatever the scratch
-  answers-last : (b : ℕ) → Boundary up count b → Answers part count key (last b)
+  answers-last : (b : ℕ) → Boundary up count b → IsFloor part count key (last b)
   answers-last b h = go (ltb 0 b) refl
     where
-      go : (t : Bool) → ltb 0 b ≡ t → Answers part count key (cond t (At (b - 1) (offsetOf part (b - 1))) Nothing)
+      go : (t : Bool) → ltb 0 b ≡ t → IsFloor part count key (cond t (At (b - 1) (offsetOf part (b - 1))) Nothing)
       go true t =
           let p : 0 < b = ltb-true 0 b t in
           let w = h .within in
           (omega arith, refl, sym (up-is (b - 1) (omega arith)) ∙ h .below (b - 1) (omega arith), λ j l m. sym (up-is j m) ∙ h .from j (omega arith) m)
       go false t = λ j m. sym (up-is j m) ∙ h .from j (omega (arith, ltb-false 0 b t)) m
 
-  pub walk-answers : Answers part count key (walk part key count 0 0 Nothing)
+  pub walk-answers : IsFloor part count key (walkFloor part key count 0 0 Nothing)
   unfolding offsetOf
   walk-answers =
       let r = walk-bound count 0 (omega arith) (λ k p. absurd (omega arith)) in
@@ -152,45 +152,42 @@ module _ (part key : List ℕ) (count : ℕ) (sorted : Sorted part count) where
       let e : 0 + k ≡ k = omega arith in
       written-at count 0 k (omega arith) l ∙ ap (offsetOf part) e
 
-  pub bisect-answers : Answers part count key (before (written part count 0) (bisect part key (written part count 0) count 0 count))
+  pub bisect-answers : IsFloor part count key (before (written part count 0) (bisect part key (written part count 0) count 0 count))
   bisect-answers = answers (written part count 0) offsets-are _ (bisect-bound (written part count 0) offsets-are count 0 count (omega arith) (omega arith) (omega arith) (λ k p. absurd (omega arith)) (λ k p q. absurd (omega arith)))
 
   -- the theorem: for a part of at most 65,535 bytes and a scratch of any length
-  pub floor-answers : (entries : ℕ) → length part ≤ 65535 → Answers part count key (floorOf part count key entries)
-  unfolding floorOf offsetOf
+  pub floor-answers : (entries : ℕ) → length part ≤ 65535 → IsFloor part count key (floorAt part count key entries)
+  unfolding floorAt offsetOf
   floor-answers entries small = rw (le-ltb 65535 (length part) small, unbroken-all count 0 (omega arith)) (go (ltb entries count))
     where
-      go : (t : Bool) → Answers part count key (cond t (walk part key count 0 0 Nothing) (before (written part count 0) (bisect part key (written part count 0) count 0 count)))
+      go : (t : Bool) → IsFloor part count key (cond t (walkFloor part key count 0 0 Nothing) (before (written part count 0) (bisect part key (written part count 0) count 0 count)))
       go true = walk-answers
       go false = bisect-answers
 
 -- ---- an answer that a lookup owes is the only one
-never : true ≡ false → ⊥
-never e = let z : _≡_ {A = ℕ} 0 1 = cc in omega arith
-
-pub answers-same : (part : List ℕ) (count : ℕ) (key : List ℕ) (f g : Floor) → Answers part count key f → Answers part count key g → f ≡ g
+pub answers-same : (part : List ℕ) (count : ℕ) (key : List ℕ) (f g : Floor) → IsFloor part count key f → IsFloor part count key g → f ≡ g
 answers-same part count key (At i o) (At j p) a b = go (decLt i j) (decLt j i)
   where
     go : Dec (i < j) → Dec (j < i) → At i o ≡ At j p
-    go (yes l) m = absurd (never (sym (a .3 j l (b .0)) ∙ b .2))
-    go (no l) (yes m) = absurd (never (sym (b .3 i m (a .0)) ∙ a .2))
+    go (yes l) m = absurd (true≢false (sym (a .3 j l (b .0)) ∙ b .2))
+    go (no l) (yes m) = absurd (true≢false (sym (b .3 i m (a .0)) ∙ a .2))
     go (no l) (no m) =
         let e : i ≡ j = omega arith in
         ap₂ At e (a .1 ∙ ap (offsetOf part) e ∙ sym (b .1))
-answers-same part count key (At i o) Nothing a b = absurd (never (sym (b i (a .0)) ∙ a .2))
-answers-same part count key Nothing (At j p) a b = absurd (never (sym (a j (b .0)) ∙ b .2))
+answers-same part count key (At i o) Nothing a b = absurd (true≢false (sym (b i (a .0)) ∙ a .2))
+answers-same part count key Nothing (At j p) a b = absurd (true≢false (sym (a j (b .0)) ∙ b .2))
 answers-same part count key Nothing Nothing a b = refl
 
 pub floor-is-the-last : FloorIsTheLast
 floor-is-the-last part key count sorted entries small = floor-answers part key count sorted entries small
 
 pub walking-is-halving : WalkingIsHalving
-unfolding floorOf
+unfolding floorAt
 walking-is-halving part key count sorted m n = go (decLt 65535 (length part))
   where
-    none : (e : ℕ) → 65535 < length part → floorOf part count key e ≡ Nothing
+    none : (e : ℕ) → 65535 < length part → floorAt part count key e ≡ Nothing
     none e l = rw (lt-ltb 65535 (length part) l)
 
-    go : Dec (65535 < length part) → floorOf part count key m ≡ floorOf part count key n
+    go : Dec (65535 < length part) → floorAt part count key m ≡ floorAt part count key n
     go (yes l) = none m l ∙ sym (none n l)
     go (no l) = answers-same part count key _ _ (floor-answers part key count sorted m (omega arith)) (floor-answers part key count sorted n (omega arith))

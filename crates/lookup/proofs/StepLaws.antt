@@ -6,8 +6,8 @@ use Prim.Native.Nat.{ℕ, _≤_}
 use native.Mathlib.Omega.{arith}
 use lib.Dec.{ltb}
 use lib.ListN.{length}
-use Rattle.lookup.specs.Record.{split}
-use Rattle.lookup.specs.Floor.{noStep, stepSplit, stepOf}
+use Rattle.lookup.specs.Record.{splitRecord}
+use Rattle.lookup.specs.Floor.{noStep, stepSplit, nextRecord}
 use Rattle.lookup.specs.declared.Split.{Split}
 use Rattle.lookup.specs.declared.Split.the-variants.{Record, Broken}
 use Rattle.lookup.specs.declared.Step.{Step}
@@ -18,11 +18,11 @@ pub record Ordered (part : List ℕ) (s : Step) : Type 0 where
   pub value : s .«key_end» ≤ s .«value_end»
   pub end : s .«value_end» ≤ length part
 
-pub step-ordered : (part : List ℕ) (n : ℕ) → Ordered part (stepOf part n)
-unfolding stepOf
-step-ordered part n = go (ltb 0 n) (split part) refl
+pub step-ordered : (part : List ℕ) (n : ℕ) → Ordered part (nextRecord part n)
+unfolding nextRecord
+step-ordered part n = go (ltb 0 n) (splitRecord part) refl
   where
-    go : (b : Bool) (r : Split) → split part ≡ r → Ordered part (cond b (stepSplit n r) (noStep n))
+    go : (b : Bool) (r : Split) → splitRecord part ≡ r → Ordered part (cond b (stepSplit n r) (noStep n))
     go true (Record k v) e = record { key = omega arith; value = omega arith; end = split-fits part k v e }
     go true Broken e = record { key = omega arith; value = omega arith; end = omega arith }
     go false (Record k v) e = record { key = omega arith; value = omega arith; end = omega arith }

@@ -5,17 +5,20 @@ use mathlib.Core.List.{List, [], _∷_}
 use Prim.Native.Nat.{ℕ}
 use lib.Dec.{eqb}
 use Rattle.error.specs.Demand.{allTrue}
-use Rattle.lookup.specs.Floor.{floorOf}
+use Rattle.lookup.specs.Floor.{floorAt}
 use Rattle.lookup.specs.declared.Floor.{Floor}
 use Rattle.lookup.specs.declared.Floor.the-variants.{At, Nothing}
 
+-- the two records, one behind the other
 abbrev pub twoRecords : List ℕ
 twoRecords = 1 ∷ 0 ∷ 0 ∷ 0 ∷ 98 ∷ 1 ∷ 0 ∷ 0 ∷ 0 ∷ 100 ∷ []
 
+-- the lookup found none
 abbrev pub isNone : Floor → Bool
 isNone (At i o) = false
 isNone Nothing = true
 
+-- the lookup found the record of that index
 abbrev pub isAt : ℕ → Floor → Bool
 isAt n (At i o) = eqb i n
 isAt n Nothing = false
@@ -23,10 +26,10 @@ isAt n Nothing = false
 -- with a scratch of so many entries: `a` finds none, `b` and `c` index 0, `da` index 1
 unfoldable pub cases : ℕ → List Bool
 cases entries =
-    isNone (floorOf twoRecords 2 (97 ∷ []) entries)
-    ∷ isAt 0 (floorOf twoRecords 2 (98 ∷ []) entries)
-    ∷ isAt 0 (floorOf twoRecords 2 (99 ∷ []) entries)
-    ∷ isAt 1 (floorOf twoRecords 2 (100 ∷ 97 ∷ []) entries)
+    isNone (floorAt twoRecords 2 (97 ∷ []) entries)
+    ∷ isAt 0 (floorAt twoRecords 2 (98 ∷ []) entries)
+    ∷ isAt 0 (floorAt twoRecords 2 (99 ∷ []) entries)
+    ∷ isAt 1 (floorAt twoRecords 2 (100 ∷ 97 ∷ []) entries)
     ∷ []
 
 -- by walking and by halving

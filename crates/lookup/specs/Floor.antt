@@ -4,7 +4,7 @@ use mathlib.Core.List.{List, [], _∷_, _++_}
 use mathlib.Core.Bool.{Bool, true, false, _&&_, cond}
 use lib.Dec.{ltb}
 use lib.ListN.{length, getD, drop}
-use Rattle.lookup.specs.Record.{split, isRecord, sizeOf, look, isAbove}
+use Rattle.lookup.specs.Record.{splitRecord, isRecord, sizeOf, lookAt, isAbove}
 use Rattle.lookup.specs.declared.Answer.{Answer}
 use Rattle.lookup.specs.declared.Split.{Split}
 use Rattle.lookup.specs.declared.Split.the-variants.{Record, Broken}
@@ -14,32 +14,32 @@ use Rattle.lookup.specs.declared.Floor.the-variants.{At, Nothing}
 
 -- the offset of the record after the one at p
 abbrev pub next : List ℕ → ℕ → ℕ
-next part p = p + sizeOf (split (drop p part))
+next part p = p + sizeOf (splitRecord (drop p part))
 
 -- what is written into the scratch for n records from the one at p on: their offsets; a broken record's is the last written
 unfoldable pub written : List ℕ → ℕ → ℕ → List ℕ
 written part zero p = []
-written part (suc n) p = p ∷ cond (isRecord (split (drop p part))) (written part n (next part p)) []
+written part (suc n) p = p ∷ cond (isRecord (splitRecord (drop p part))) (written part n (next part p)) []
 
 -- none of the n records from the one at p on is broken
 unfoldable pub unbroken : List ℕ → ℕ → ℕ → Bool
 unbroken part zero p = true
-unbroken part (suc n) p = isRecord (split (drop p part)) && unbroken part n (next part p)
+unbroken part (suc n) p = isRecord (splitRecord (drop p part)) && unbroken part n (next part p)
 
 -- the scratch once its first entries are ws; the rest is untouched
 abbrev pub over : List ℕ → List ℕ → List ℕ
 over ws scratch = ws ++ drop (length ws) scratch
 
 -- the record at p is above the sought key, or broken
-abbrev pub above : List ℕ → List ℕ → ℕ → Bool
-above part key p = isAbove (look (drop p part) key)
+abbrev pub aboveAt : List ℕ → List ℕ → ℕ → Bool
+aboveAt part key p = isAbove (lookAt (drop p part) key)
 
 -- halving takes (low + high) / 2 rounded down and ends at an index; `steps` bounds its turns, and high - low of them are enough
 unfoldable pub bisect : List ℕ → List ℕ → List ℕ → ℕ → ℕ → ℕ → ℕ
 bisect part key offs zero low high = low
 bisect part key offs (suc steps) low high =
     cond (ltb low high)
-    (cond (above part key (getD offs ((low + high) / 2) 0)) (bisect part key offs steps low ((low + high) / 2)) (bisect part key offs steps ((low + high) / 2 + 1) high))
+    (cond (aboveAt part key (getD offs ((low + high) / 2) 0)) (bisect part key offs steps low ((low + high) / 2)) (bisect part key offs steps ((low + high) / 2 + 1) high))
     low
 
 -- the record before an index
@@ -47,15 +47,15 @@ abbrev pub before : List ℕ → ℕ → Floor
 before offs i = cond (ltb 0 i) (At (i - 1) (getD offs (i - 1) 0)) Nothing
 
 -- the walk from the front: n records are left, the next is record i at p, and `found` is the answer so far. A broken record stops it as one above the sought key does
-unfoldable pub walk : List ℕ → List ℕ → ℕ → ℕ → ℕ → Floor → Floor
-walk part key zero p i found = found
-walk part key (suc n) p i found = cond (above part key p) found (walk part key n (next part p) (i + 1) (At i p))
+unfoldable pub walkFloor : List ℕ → List ℕ → ℕ → ℕ → ℕ → Floor → Floor
+walkFloor part key zero p i found = found
+walkFloor part key (suc n) p i found = cond (aboveAt part key p) found (walkFloor part key n (next part p) (i + 1) (At i p))
 
 -- the answer, lent a scratch of so many entries. A part above 65,535 bytes gives none; a scratch shorter than the count, the walk; records that break in the filling, none
-unfoldable pub floorOf : List ℕ → ℕ → List ℕ → ℕ → Floor
-floorOf part count key entries =
+unfoldable pub floorAt : List ℕ → ℕ → List ℕ → ℕ → Floor
+floorAt part count key entries =
     cond (ltb 65535 (length part)) Nothing
-    (cond (ltb entries count) (walk part key count 0 0 Nothing)
+    (cond (ltb entries count) (walkFloor part key count 0 0 Nothing)
     (cond (unbroken part count 0) (before (written part count 0) (bisect part key (written part count 0) count 0 count)) Nothing))
 
 -- the scratch at the end: untouched in the first two cases, otherwise its first count entries become the records' offsets
@@ -68,16 +68,18 @@ answerOf len count (At i o) = record { found = true; index = i; remaining = coun
 answerOf len count Nothing = record { found = false; index = 0; remaining = 0; from = 0; end = 0 }
 
 -- the lookup's answer on a part with so many records, lent a scratch of so many entries
-abbrev pub answerAt : List ℕ → ℕ → List ℕ → ℕ → Answer
-answerAt part count key entries = answerOf (length part) count (floorOf part count key entries)
+abbrev pub floorAnswer : List ℕ → ℕ → List ℕ → ℕ → Answer
+floorAnswer part count key entries = answerOf (length part) count (floorAt part count key entries)
 
 -- the next record of n that are left: where its key starts and ends, where its value ends, and how many are left after it
 abbrev pub noStep : ℕ → Step
 noStep n = record { found = false; «key_start» = 0; «key_end» = 0; «value_end» = 0; remaining = n }
 
+-- over a record, or none over a broken one
 abbrev pub stepSplit : ℕ → Split → Step
 stepSplit n (Record k v) = record { found = true; «key_start» = 4; «key_end» = 4 + k; «value_end» = 4 + k + v; remaining = n - 1 }
 stepSplit n Broken = noStep n
 
-unfoldable pub stepOf : List ℕ → ℕ → Step
-stepOf part n = cond (ltb 0 n) (stepSplit n (split part)) (noStep n)
+-- section 5: where none is left, none
+unfoldable pub nextRecord : List ℕ → ℕ → Step
+nextRecord part n = cond (ltb 0 n) (stepSplit n (splitRecord part)) (noStep n)

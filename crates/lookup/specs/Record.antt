@@ -16,6 +16,7 @@ use Rattle.lookup.specs.declared.Look.the-variants.{Above, Size}
 abbrev pub keyLen : List ℕ → ℕ
 keyLen s = u16At s 0
 
+-- section 5: u16 at 2, the length of its value
 abbrev pub valueLen : List ℕ → ℕ
 valueLen s = u16At s 2
 
@@ -27,17 +28,20 @@ recordLen s = 4 + keyLen s + valueLen s
 abbrev pub keyOf : List ℕ → List ℕ
 keyOf s = part s 4 (keyLen s)
 
+-- section 5: behind the key, its value
 abbrev pub valueOf : List ℕ → List ℕ
 valueOf s = part s (4 + keyLen s) (valueLen s)
 
 -- the record at the start of s, or Broken where s doesn't hold all of it
-unfoldable pub split : List ℕ → Split
-split s = cond (leb (recordLen s) (length s)) (Record (keyLen s) (valueLen s)) Broken
+unfoldable pub splitRecord : List ℕ → Split
+splitRecord s = cond (leb (recordLen s) (length s)) (Record (keyLen s) (valueLen s)) Broken
 
+-- a whole record, not a broken one
 abbrev pub isRecord : Split → Bool
 isRecord (Record k v) = true
 isRecord Broken = false
 
+-- how many bytes a whole record takes
 abbrev pub sizeOf : Split → ℕ
 sizeOf (Record k v) = 4 + k + v
 sizeOf Broken = 0
@@ -47,9 +51,11 @@ abbrev pub lookSplit : List ℕ → List ℕ → Split → Look
 lookSplit s key (Record k v) = cond (isGreater (order (part s 4 k) key)) Above (Size (4 + k + v))
 lookSplit s key Broken = Above
 
-unfoldable pub look : List ℕ → List ℕ → Look
-look s key = lookSplit s key (split s)
+-- section 7: the record that stands there, beside the sought key
+unfoldable pub lookAt : List ℕ → List ℕ → Look
+lookAt s key = lookSplit s key (splitRecord s)
 
+-- section 7: it is above the sought key, or broken
 abbrev pub isAbove : Look → Bool
 isAbove Above = true
 isAbove (Size n) = false

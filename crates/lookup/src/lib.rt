@@ -4,9 +4,9 @@ ghost use mathlib.Core.Bool.{true};
 ghost use Prim.Native.Nat.{ℕ, _+_, _-_, _<_, _≤_};
 ghost use lib.ListN.{length, getD, drop};
 ghost use Rattle.octets.specs.Number.{u16At};
-ghost use Rattle.lookup.specs.Record.{split, isRecord, look};
-ghost use Rattle.lookup.specs.Inside.{endOf};
-ghost use Rattle.lookup.specs.Floor.{written, unbroken, over, above, bisect, before, walk, floorOf, scratchOf, answerAt, stepOf};
+ghost use Rattle.lookup.specs.Record.{splitRecord, isRecord, lookAt};
+ghost use Rattle.lookup.specs.Inside.{recordEnd};
+ghost use Rattle.lookup.specs.Floor.{written, unbroken, over, aboveAt, bisect, before, walkFloor, floorAt, scratchOf, floorAnswer, noStep, nextRecord};
 
 // What stands at the start of a part: a record, or too few bytes for one.
 pub enum Split {
@@ -33,7 +33,7 @@ pub enum Floor {
 
 // The record at the start of a part.
 pub fn split_record(part: &[u8]) -> Split
-    ensures { λ r. ⌜ r ≡ split (now (part .entry)) ⌝ }
+    ensures { λ r. ⌜ r ≡ splitRecord (now (part .entry)) ⌝ }
 {
     if part.len() < 4 {
         return Split::Broken;
@@ -48,7 +48,7 @@ pub fn split_record(part: &[u8]) -> Split
 
 // The record at the start of a part, beside a sought key.
 pub fn look_at(part: &[u8], key: &[u8]) -> Look
-    ensures { λ r. ⌜ r ≡ look (now (part .entry)) (now (key .entry)) ⌝ }
+    ensures { λ r. ⌜ r ≡ lookAt (now (part .entry)) (now (key .entry)) ⌝ }
 {
     match split_record(part) {
         Split::Record { key_len, value_len } => {
@@ -69,7 +69,7 @@ fn wide(byte: u8) -> usize
     byte as usize
 }
 
-// The number of two bytes that stand at a place.
+// The number of two bytes that stand at a place. `octets::u16_at` tests again that they do, and takes a lookup some hundredths longer.
 fn number_at(part: &[u8], at: usize) -> usize
     requires { ⌜ at + 2 ≤ length (now part) ⌝ }
     ensures { λ r. ⌜ (r ≡ u16At (now (part .entry)) at) × (r < 65536) ⌝ }
@@ -80,7 +80,7 @@ fn number_at(part: &[u8], at: usize) -> usize
 // Where the record at a place ends.
 fn record_end(part: &[u8], at: usize) -> End
     requires { ⌜ (at ≤ length (now part)) × (length (now part) ≤ 65535) ⌝ }
-    ensures { λ r. ⌜ r ≡ endOf (now (part .entry)) at ⌝ }
+    ensures { λ r. ⌜ r ≡ recordEnd (now (part .entry)) at ⌝ }
 {
     let start = at + 4;
     if part.len() < start {
@@ -116,8 +116,8 @@ fn fill_offsets(part: &[u8], count: usize, scratch: &mut [u16]) -> bool
 }
 
 // The walk from the front, which stops at a record above the key and at a broken one.
-fn walk_records(part: &[u8], count: usize, key: &[u8]) -> Floor
-    ensures { λ r. ⌜ r ≡ walk (now (part .entry)) (now (key .entry)) count 0 0 Floor.Nothing ⌝ }
+fn walk_floor(part: &[u8], count: usize, key: &[u8]) -> Floor
+    ensures { λ r. ⌜ r ≡ walkFloor (now (part .entry)) (now (key .entry)) count 0 0 Floor.Nothing ⌝ }
 {
     let mut index = 0;
     let mut position = 0;
@@ -141,9 +141,9 @@ fn walk_records(part: &[u8], count: usize, key: &[u8]) -> Floor
 }
 
 // Whether the key of the whole record at a place is above a sought one.
-fn key_above(part: &[u8], at: usize, key: &[u8]) -> bool
-    requires { ⌜ (isRecord (split (drop at (now part))) ≡ true) × (at + 4 + u16At (now part) at ≤ length (now part)) ⌝ }
-    ensures { λ r. ⌜ r ≡ above (now (part .entry)) (now (key .entry)) at ⌝ }
+fn above_at(part: &[u8], at: usize, key: &[u8]) -> bool
+    requires { ⌜ (isRecord (splitRecord (drop at (now part))) ≡ true) × (at + 4 + u16At (now part) at ≤ length (now part)) ⌝ }
+    ensures { λ r. ⌜ r ≡ aboveAt (now (part .entry)) (now (key .entry)) at ⌝ }
 {
     let start = at + 4;
     let end = start + number_at(part, at);
@@ -152,7 +152,7 @@ fn key_above(part: &[u8], at: usize, key: &[u8]) -> bool
 
 // The record before the first one above the key, by bisection over the offsets of whole records.
 fn bisect_records(part: &[u8], count: usize, key: &[u8], offsets: &[u16]) -> Floor
-    requires { ⌜ (count ≤ length (now offsets)) × ((k : ℕ) → k < count → isRecord (split (drop (getD (now offsets) k 0) (now part))) ≡ true) ⌝ }
+    requires { ⌜ (count ≤ length (now offsets)) × ((k : ℕ) → k < count → isRecord (splitRecord (drop (getD (now offsets) k 0) (now part))) ≡ true) ⌝ }
     ensures { λ r. ⌜ r ≡ before (now (offsets .entry)) (bisect (now (part .entry)) (now (key .entry)) (now (offsets .entry)) count 0 count) ⌝ }
 {
     let mut low = 0;
@@ -160,7 +160,7 @@ fn bisect_records(part: &[u8], count: usize, key: &[u8], offsets: &[u16]) -> Flo
     while low < high {
         let middle = (low + high) / 2;
         let at = offsets[middle] as usize;
-        if key_above(part, at, key) {
+        if above_at(part, at, key) {
             high = middle;
         } else {
             low = middle + 1;
@@ -177,13 +177,13 @@ fn bisect_records(part: &[u8], count: usize, key: &[u8], offsets: &[u16]) -> Flo
 
 // The floor lookup. The scratch is written where it has an entry for each record.
 pub fn floor_at(part: &[u8], count: usize, key: &[u8], scratch: &mut [u16]) -> Floor
-    ensures { λ r. ⌜ (r ≡ floorOf (now (part .entry)) count (now (key .entry)) (length (now (scratch .entry)))) × (now (scratch .exit) ≡ scratchOf (now (part .entry)) count (now (scratch .entry))) ⌝ }
+    ensures { λ r. ⌜ (r ≡ floorAt (now (part .entry)) count (now (key .entry)) (length (now (scratch .entry)))) × (now (scratch .exit) ≡ scratchOf (now (part .entry)) count (now (scratch .entry))) ⌝ }
 {
     if 65535 < part.len() {
         return Floor::Nothing;
     }
     if scratch.len() < count {
-        return walk_records(part, count, key);
+        return walk_floor(part, count, key);
     }
     if fill_offsets(part, count, scratch) {
         bisect_records(part, count, key, scratch)
@@ -202,7 +202,7 @@ pub struct Answer {
 }
 
 pub fn floor_answer(part: &[u8], count: usize, key: &[u8], scratch: &mut [u16]) -> Answer
-    ensures { λ r. ⌜ (r ≡ answerAt (now (part .entry)) count (now (key .entry)) (length (now (scratch .entry)))) × (now (scratch .exit) ≡ scratchOf (now (part .entry)) count (now (scratch .entry))) ⌝ }
+    ensures { λ r. ⌜ (r ≡ floorAnswer (now (part .entry)) count (now (key .entry)) (length (now (scratch .entry)))) × (now (scratch .exit) ≡ scratchOf (now (part .entry)) count (now (scratch .entry))) ⌝ }
 {
     match floor_at(part, count, key, scratch) {
         Floor::At {
@@ -226,7 +226,7 @@ pub fn floor_answer(part: &[u8], count: usize, key: &[u8], scratch: &mut [u16]) 
 }
 
 // What stands at the front of a part with so many records left: where the record's key starts and ends, where its value ends, and how
-// many records are left after it. Where there is none, nothing is passed.
+// many records are left after it.
 pub struct Step {
     pub found: bool,
     pub key_start: usize,
@@ -235,36 +235,36 @@ pub struct Step {
     pub remaining: usize,
 }
 
-pub fn next_record(part: &[u8], remaining: usize) -> Step
-    ensures { λ r. ⌜ r ≡ stepOf (now (part .entry)) remaining ⌝ }
+// Where there is no record, nothing is passed.
+fn no_step(remaining: usize) -> Step
+    ensures { λ r. ⌜ r ≡ noStep remaining ⌝ }
 {
-    if 0 < remaining {
-        match split_record(part) {
-            Split::Record { key_len, value_len } => {
-                let key_end = 4 + key_len;
-                Step {
-                    found: true,
-                    key_start: 4,
-                    key_end,
-                    value_end: key_end + value_len,
-                    remaining: remaining - 1,
-                }
+    Step {
+        found: false,
+        key_start: 0,
+        key_end: 0,
+        value_end: 0,
+        remaining,
+    }
+}
+
+pub fn next_record(part: &[u8], remaining: usize) -> Step
+    ensures { λ r. ⌜ r ≡ nextRecord (now (part .entry)) remaining ⌝ }
+{
+    if remaining == 0 {
+        return no_step(remaining);
+    }
+    match split_record(part) {
+        Split::Record { key_len, value_len } => {
+            let key_end = 4 + key_len;
+            Step {
+                found: true,
+                key_start: 4,
+                key_end,
+                value_end: key_end + value_len,
+                remaining: remaining - 1,
             }
-            Split::Broken => Step {
-                found: false,
-                key_start: 0,
-                key_end: 0,
-                value_end: 0,
-                remaining,
-            },
         }
-    } else {
-        Step {
-            found: false,
-            key_start: 0,
-            key_end: 0,
-            value_end: 0,
-            remaining,
-        }
+        Split::Broken => no_step(remaining),
     }
 }

@@ -1,6 +1,6 @@
 -- Laws of `every` and `through`: a test at each number below n, and the last number below n at which it holds.
 use mathlib.Core.Path.{_≡_, refl, sym, ap, _∙_}
-use mathlib.Core.Bool.{Bool, true, false, cond, _&&_, and-false}
+use mathlib.Core.Bool.{Bool, true, false, cond, _&&_, and-false, true≢false}
 use mathlib.Core.Logic.{_⊎_, inl, inr}
 use Prim.Native.Nat.{ℕ, zero, suc, _+_, _≤_, _<_}
 use native.Mathlib.Nat.{eq-or-lt-of-le, le-of-suc-le-suc, not-suc-le-zero}
@@ -63,10 +63,7 @@ through-held f (suc n) s h e = go (f n) refl (λ l. through-held f n s l e) (las
   where
     go : (b : Bool) → f n ≡ b → (s < n → s < through f n) → (s ≡ n) ⊎ (s < n) → s < cond b (suc n) (through f n)
     go true p rest c = h
-    go false p rest (inl q) = let z : true ≡ false = sym e ∙ ap f q ∙ p in absurd (never z)
-      where
-        never : true ≡ false → ⊥
-        never z = let k : _≡_ {A = ℕ} 0 1 = cc in omega arith
+    go false p rest (inl q) = let z : true ≡ false = sym e ∙ ap f q ∙ p in absurd (true≢false z)
     go false p rest (inr l) = rest l
 
 pub through-same : (f g : ℕ → Bool) (n : ℕ) → ((s : ℕ) → s < n → f s ≡ g s) → through f n ≡ through g n

@@ -2,6 +2,7 @@ pub mod Below
 pub mod Bit
 pub mod Join
 pub mod Digits
+pub mod Lay
 pub mod Padded
 pub mod Parts
 pub mod Within

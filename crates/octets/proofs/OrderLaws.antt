@@ -96,6 +96,11 @@ above-trans (x ∷ xs) (y ∷ ys) (z ∷ zs) e g = go (above-trans xs ys zs)
         (λ (h : (x ≡ y) × (order xs ys ≡ Less)). ⊎-elim (λ (m : z < x). greater-by y z ys zs (omega arith)) (λ (i : (x ≡ z) × (order xs zs ≡ Greater)). greater-on y z ys zs (omega arith) (ih (h .1) (i .1))) (greater-is x z xs zs g))
         (less-is x y xs ys e)
 
+pub less-of : (o : Order) → isLess o ≡ true → o ≡ Less
+less-of Less e = refl
+less-of Equal e = cc
+less-of Greater e = cc
+
 pub greater-of : (o : Order) → isGreater o ≡ true → o ≡ Greater
 greater-of Less e = let z : _≡_ {A = ℕ} 0 1 = cc in absurd (omega arith)
 greater-of Equal e = let z : _≡_ {A = ℕ} 0 1 = cc in absurd (omega arith)

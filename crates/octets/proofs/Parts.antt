@@ -1,10 +1,10 @@
 -- Parts of lent bytes, as a call has them.
-use mathlib.Core.Path.{_≡_, sym, ap, _∙_}
-use mathlib.Core.List.{List, []}
+use mathlib.Core.Path.{_≡_, sym, ap, ap₂, _∙_}
+use mathlib.Core.List.{List, [], _++_}
 use Prim.Native.Nat.{ℕ, _+_, _-_, _<_, _≤_}
 use native.Mathlib.Omega.{arith}
 use lib.ListN.{length, take, drop, length-drop, drop-of-length-le}
-use lib.Seq.{take-all, drop-length, drop-drop}
+use lib.Seq.{take-all, take-add, drop-length, drop-drop}
 use denote.Ref.{RefT, ptr, now}
 use Rattle.octets.specs.Bytes.{part, placeIn}
 use Rattle.octets.specs.Number.{field}
@@ -12,6 +12,10 @@ use Rattle.octets.specs.Number.{field}
 -- a part from a on
 pub part-from : (s : List ℕ) (a : ℕ) → take (length s - a) (drop a s) ≡ drop a s
 part-from s a = take-all (length s - a) (drop a s) (rw length-drop (omega arith))
+
+-- bytes that are the same up to a place, and in the part from there on
+pub grow : (s t : List ℕ) (offset width : ℕ) → take offset s ≡ take offset t → part s offset width ≡ part t offset width → take (offset + width) s ≡ take (offset + width) t
+grow s t offset width a b = take-add offset width s ∙ ap₂ _++_ a b ∙ sym (take-add offset width t)
 
 -- a field of the bytes from a place on
 pub field-from : (s : List ℕ) (p o w : ℕ) → field (drop p s) o w ≡ field s (p + o) w

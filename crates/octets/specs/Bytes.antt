@@ -5,6 +5,7 @@ use mathlib.Core.Bool.{Bool, true, false, _&&_}
 use mathlib.Core.List.{List, [], _∷_, _++_}
 use lib.Dec.{eqb}
 use lib.ListN.{length, getD, take, drop, replicate}
+use lib.Seq.{sets}
 use denote.Ref.{RefT, ptr, now}
 
 -- each element is a byte
@@ -36,6 +37,11 @@ pub record IsRest (lent : RefT (List ℕ)) (offset : ℕ) (r : RefT (List ℕ)) 
 -- the first n bytes, then zeros up to n bytes
 abbrev pub paddedTo : ℕ → List ℕ → List ℕ
 paddedTo n s = take n s ++ replicate (n - length s) 0
+
+-- the bytes stand in a lent buffer from `at` on, as far as it goes, and nothing else in it has changed; r is the place behind them
+pub record Laid (before : List ℕ) (at : ℕ) (bytes after : List ℕ) (r : ℕ) : Type 0 where
+  pub stands : after ≡ sets before at bytes
+  pub ends : r ≡ at + min (length bytes) (length before - at)
 
 -- each byte is 0
 abbrev pub allZero : List ℕ → Bool

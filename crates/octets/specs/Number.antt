@@ -1,5 +1,5 @@
 -- Numbers in bytes (01: stored integers are little-endian; integers inside keys are big-endian).
-use Prim.Native.Nat.{ℕ, _+_, _*_, _^_}
+use Prim.Native.Nat.{ℕ, zero, suc, _+_, _*_, _/_, _%_, _^_}
 use mathlib.Core.Bool.{Bool, cond}
 use mathlib.Core.List.{List, [], _∷_}
 use lib.Dec.{leb}
@@ -10,6 +10,11 @@ use Rattle.octets.specs.Bytes.{part}
 abbrev pub little : List ℕ → ℕ
 little [] = 0
 little (b ∷ bs) = b + 256 * little bs
+
+-- a number's bytes, so many, the lowest first
+abbrev pub littleBytes : ℕ → ℕ → List ℕ
+littleBytes zero n = []
+littleBytes (suc width) n = n % 256 ∷ littleBytes width (n / 256)
 
 -- big-endian: the last byte counts ones, the one before it 256s, and so on
 abbrev pub big : List ℕ → ℕ
@@ -24,9 +29,11 @@ field s offset width = little (part s offset width)
 abbrev pub u16At : List ℕ → ℕ → ℕ
 u16At s offset = field s offset 2
 
+-- four bytes wide
 abbrev pub u32At : List ℕ → ℕ → ℕ
 u32At s offset = field s offset 4
 
+-- eight bytes wide
 abbrev pub u64At : List ℕ → ℕ → ℕ
 u64At s offset = field s offset 8
 

@@ -3,7 +3,7 @@ ghost use mathlib.Core.Path.{_≡_};
 ghost use Prim.Native.Nat.{_+_, _-_, _≤_, _<_, _^_, min};
 ghost use lib.Dec.{leb};
 ghost use lib.ListN.{length, drop};
-ghost use Rattle.octets.specs.Bytes.{byteAt, part, IsPart, IsRest, paddedTo, allZero, sameBytes, startsWith};
+ghost use Rattle.octets.specs.Bytes.{byteAt, part, IsPart, IsRest, paddedTo, Laid, allZero, sameBytes, startsWith};
 ghost use Rattle.octets.specs.Number.{big, field, u16At, u32At, u64At, bigAt};
 ghost use Rattle.octets.specs.Order.{order, isGreater};
 ghost use Rattle.octets.specs.Inside.{FrontSays};
@@ -288,7 +288,8 @@ enum Front {
     Same(usize),
 }
 
-fn lesser(a: usize, b: usize) -> usize
+// The lesser of two lengths.
+pub fn lesser(a: usize, b: usize) -> usize
     ensures { λ r. ⌜ r ≡ min a b ⌝ }
 {
     if a < b { a } else { b }
@@ -339,19 +340,29 @@ pub fn is_above(a: &[u8], b: &[u8]) -> bool
     }
 }
 
+// Lays bytes into a lent buffer from a place on, and says where they end; what the buffer has no room for is left out.
+pub fn put(out: &mut [u8], at: usize, bytes: &[u8]) -> usize
+    ensures { λ r. ⌜ Laid (now (out .entry)) at (now (bytes .entry)) (now (out .exit)) r ⌝ }
+{
+    let mut i = 0;
+    let mut place = at;
+    while i < bytes.len() {
+        if out.len() <= place {
+            return place;
+        }
+        out[place] = bytes[i];
+        i += 1;
+        place += 1;
+    }
+    place
+}
+
 // The first bytes of a part in an array, zeros after them.
 pub fn copy16(bytes: &[u8]) -> [u8; 16]
     ensures { λ r. ⌜ r ≡ paddedTo 16 (now (bytes .entry)) ⌝ }
 {
     let mut out = [0u8; 16];
-    let mut i = 0;
-    while i < 16 {
-        if bytes.len() <= i {
-            return out;
-        }
-        out[i] = bytes[i];
-        i += 1;
-    }
+    put(&mut out, 0, bytes);
     out
 }
 
@@ -359,13 +370,6 @@ pub fn copy255(bytes: &[u8]) -> [u8; 255]
     ensures { λ r. ⌜ r ≡ paddedTo 255 (now (bytes .entry)) ⌝ }
 {
     let mut out = [0u8; 255];
-    let mut i = 0;
-    while i < 255 {
-        if bytes.len() <= i {
-            return out;
-        }
-        out[i] = bytes[i];
-        i += 1;
-    }
+    put(&mut out, 0, bytes);
     out
 }

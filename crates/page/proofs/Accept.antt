@@ -1,7 +1,6 @@
 -- A page is accepted exactly when each of its rules holds.
 use mathlib.Core.Path.{_≡_, refl, sym, ap, _∙_}
 use mathlib.Core.Bool.{Bool, true, false, not, _&&_, _||_}
-use mathlib.Core.Logic.{_⊎_, inl, inr}
 use mathlib.Core.List.{List}
 use Prim.Native.Nat.{ℕ}
 use native.Mathlib.Omega.{arith}
@@ -13,7 +12,7 @@ use Rattle.error.specs.declared.Check.{Check}
 use Rattle.error.specs.declared.Check.the-variants.{Passed, Refused}
 use Rattle.error.specs.Answer.{numberCheck, numberOf}
 use Rattle.error.proofs.Exactly.{all-hold, all-pass, passed-is, passed-test, by, outcome-by, class-some}
-use Rattle.error.proofs.Tests.{and-left, and-right, and-both, not-yes}
+use Rattle.error.proofs.Tests.{one-of, is-one-of, and-left, and-right, and-both, not-yes}
 use Rattle.octets.specs.Bytes.{byteAt, part, allZero}
 use Rattle.octets.specs.Number.{u16At, u32At}
 use Rattle.octets.proofs.Same.{same-is, same-self}
@@ -24,7 +23,7 @@ use Rattle.volume.specs.References.{treeKindValue, validateBlocks, validatePage
 use Rattle.page.specs.declared.Expected.{Expected}
 use Rattle.page.specs.declared.Page.{Page}
 use Rattle.page.specs.Header.{magic, pageKind, treeKind, level, selfBlock, generation, count, payloadLength, total, callerDemands, checkCaller, checksumFits, formatDemands, checkFormat, isPageKind, isTreeKind, levelFits, reservedZero, isOfTree, kindDemands, checkKind, isReferred, hasUuid, identityDemands, checkIdentity, headerDemands, validatePageHeader}
-use Rattle.page.specs.Page.{walked, totalFits, paddingZero, enoughChildren, contentDemands, checkContent, pageDemands, checkPage, refusedPage, acceptedPage, decodePage}
+use Rattle.page.specs.Page.{validatePageRecords, totalFits, paddingZero, enoughChildren, contentDemands, checkContent, pageDemands, checkPage, refusedPage, acceptedPage, decodePage}
 use Rattle.page.specs.Accept.{CallerHolds, HeaderHolds, ContentHolds, PageHolds, PageExactly}
 
 -- ---- tests that ask only under a condition
@@ -39,10 +38,6 @@ unasked n m b h = go (eqb n m) refl
     go : (t : Bool) → eqb n m ≡ t → (not t || b) ≡ true
     go true p = h (eqb-true n m p)
     go false p = refl
-
-one-of : (a b : Bool) → (a || b) ≡ true → (a ≡ true) ⊎ (b ≡ true)
-one-of true b e = inl refl
-one-of false b e = inr e
 
 -- ---- from the chain to the rules
 
@@ -106,7 +101,7 @@ module _ (reference : TreeRef) (uuid : List ℕ) (kind : TreeKind) (parent : ℕ
         magic-is = same-is (part page 0 8) magic (f .1 .0);
         revision = eqb-true (u16At page 8) 1 (f .1 .1 .0);
         flags = eqb-true (u16At page 10) 0 (f .1 .1 .1 .0);
-        kind-is = kinds (one-of (eqb (pageKind page) 1) (eqb (pageKind page) 2) (k .0));
+        kind-is = one-of (pageKind page) 1 2 (k .0);
         tree-kind = eqb-true (treeKind page) (treeKindValue kind) (k .1 .1 .0);
         leaf-level = λ p. eqb-true (level page) 0 (asked (pageKind page) 1 (eqb (level page) 0) (and-left leaf inner (k .1 .1 .1 .0)) p);
         internal-level = λ p. let r = asked (pageKind page) 2 range (and-right leaf inner (k .1 .1 .1 .0)) p in (leb-true 1 (level page) (and-left (leb 1 (level page)) (leb (level page) 7) r), leb-true (level page) 7 (and-right (leb 1 (level page)) (leb (level page) 7) r));
@@ -122,10 +117,6 @@ module _ (reference : TreeRef) (uuid : List ℕ) (kind : TreeKind) (parent : ℕ
         total-fits = leb-true (total page) blocks (i .1 .1 .1 .0);
         total-allowed = i .1 .1 .1 .1 .0;
       }
-    where
-      kinds : (eqb (pageKind page) 1 ≡ true) ⊎ (eqb (pageKind page) 2 ≡ true) → (pageKind page ≡ 1) ⊎ (pageKind page ≡ 2)
-      kinds (inl e) = inl (eqb-true (pageKind page) 1 e)
-      kinds (inr e) = inr (eqb-true (pageKind page) 2 e)
 
   format-passes : HeaderHolds reference uuid kind parent expected blocks page → checkFormat page ≡ Passed
   unfolding checkFormat checksumFits
@@ -142,7 +133,7 @@ module _ (reference : TreeRef) (uuid : List ℕ) (kind : TreeKind) (parent : ℕ
   unfolding checkKind isPageKind isTreeKind levelFits reservedZero isOfTree
   kind-passes h =
       all-pass (kindDemands kind expected page) (
-        one (h .kind-is),
+        is-one-of (pageKind page) 1 2 (h .kind-is),
         (
           numbered kind (h .tree-kind),
           (
@@ -160,10 +151,6 @@ module _ (reference : TreeRef) (uuid : List ℕ) (kind : TreeKind) (parent : ℕ
         ),
       )
     where
-      one : (pageKind page ≡ 1) ⊎ (pageKind page ≡ 2) → (eqb (pageKind page) 1 || eqb (pageKind page) 2) ≡ true
-      one (inl e) = rw e
-      one (inr e) = rw e
-
       numbered : (k : TreeKind) → treeKind page ≡ treeKindValue k → (leb 1 (treeKind page) && leb (treeKind page) 4) ≡ true
       numbered TreeKind.Catalog e = rw e
       numbered TreeKind.Allocation e = rw e
@@ -191,8 +178,8 @@ module _ (reference : TreeRef) (uuid : List ℕ) (kind : TreeKind) (parent : ℕ
   content-holds e =
       let c = all-hold (contentDemands kind blocks page) e in
       record {
-        records = passed-is (numberCheck (walked kind blocks page)) (c .0);
-        leaf-total = λ p. eqb-true (total page) (numberOf (walked kind blocks page)) (asked (pageKind page) 1 (eqb (total page) (numberOf (walked kind blocks page))) (c .1 .0) p);
+        records = passed-is (numberCheck (validatePageRecords kind blocks page)) (c .0);
+        leaf-total = λ p. eqb-true (total page) (numberOf (validatePageRecords kind blocks page)) (asked (pageKind page) 1 (eqb (total page) (numberOf (validatePageRecords kind blocks page))) (c .1 .0) p);
         padding = c .1 .1 .0;
         children = λ p. leb-true 2 (count page) (asked (pageKind page) 2 (leb 2 (count page)) (c .1 .1 .1 .0) p);
       }
@@ -201,9 +188,9 @@ module _ (reference : TreeRef) (uuid : List ℕ) (kind : TreeKind) (parent : ℕ
   unfolding checkContent totalFits paddingZero enoughChildren
   content-passes h =
       all-pass (contentDemands kind blocks page) (
-        passed-test (numberCheck (walked kind blocks page)) (h .records),
+        passed-test (numberCheck (validatePageRecords kind blocks page)) (h .records),
         (
-          unasked (pageKind page) 1 (eqb (total page) (numberOf (walked kind blocks page))) (λ p. eq-eqb (total page) (numberOf (walked kind blocks page)) (h .leaf-total p)),
+          unasked (pageKind page) 1 (eqb (total page) (numberOf (validatePageRecords kind blocks page))) (λ p. eq-eqb (total page) (numberOf (validatePageRecords kind blocks page)) (h .leaf-total p)),
           (
             h .padding,
             (unasked (pageKind page) 2 (leb 2 (count page)) (λ p. le-leb 2 (count page) (h .children p)), tt),

@@ -3,7 +3,7 @@ use mathlib.Core.Path.{_≡_, refl, sym, ap, ap₂, subst, _∙_}
 use mathlib.Core.List.{List}
 use Prim.Native.Nat.{ℕ, _+_, _-_, _≤_}
 use native.Mathlib.Omega.{arith}
-use lib.ListN.{length, drop, length-take, length-drop}
+use lib.ListN.{length, drop}
 use denote.Ref.{RefT, now}
 use Rattle.error.specs.declared.Check.the-variants.{Passed}
 use Rattle.error.specs.declared.Number.{Number}
@@ -14,11 +14,12 @@ use Rattle.volume.specs.declared.TreeRef.{TreeRef}
 use Rattle.volume.specs.declared.TreeKind.{TreeKind}
 use Rattle.walk.specs.Entries.{Read}
 use Rattle.walk.specs.Records.{isLeaf, ownRules, validateRecords}
-use Rattle.lookup.specs.Floor.{floorOf, answerOf, stepOf}
+use Rattle.lookup.specs.Floor.{floorAt, answerOf, nextRecord}
 use Rattle.lookup.specs.declared.Floor.{Floor}
 use Rattle.lookup.specs.declared.Floor.the-variants.{At, Nothing}
 use Rattle.lookup.specs.declared.Step.{Step}
 use Rattle.walk.specs.Found.{Finding, firstOf, stepFound, lookupIn}
+use Rattle.octets.proofs.Join.{part-length}
 use Rattle.octets.proofs.Digits.{bytes-drop}
 use Rattle.octets.proofs.Parts.{part-from}
 use Rattle.walk.proofs.Walked.{walk-reads}
@@ -27,7 +28,7 @@ use Rattle.page.specs.declared.Expected.{Expected}
 use Rattle.page.specs.declared.Page.{Page}
 use Rattle.page.specs.declared.view.PageView.{PageView}
 use Rattle.page.specs.Header.{level, total, count, payloadLength}
-use Rattle.page.specs.Page.{context, walked, pageDemands, checkPage, refusedPage, acceptedPage, decodePage}
+use Rattle.page.specs.Page.{context, validatePageRecords, pageDemands, checkPage, refusedPage, acceptedPage, decodePage}
 use Rattle.page.specs.View.{Views}
 use Rattle.page.specs.Agree.{lookup, Accepted, Same, PagesAgree, handedOut, LookupIsHandedOut}
 use Rattle.page.proofs.Accept.{page-holds}
@@ -38,12 +39,12 @@ value-is (Number.Value n) e = refl
 value-is (Number.Refused x) e = cc
 
 -- the records of a page whose walk passes
-read-of : (kind : TreeKind) (blocks : ℕ) (page : List ℕ) → Bytes page → numberCheck (walked kind blocks page) ≡ Passed → Read (drop 80 page) (payloadLength page) (count page)
-unfolding walked validateRecords
+read-of : (kind : TreeKind) (blocks : ℕ) (page : List ℕ) → Bytes page → numberCheck (validatePageRecords kind blocks page) ≡ Passed → Read (part page 80 (payloadLength page)) (count page)
+unfolding validatePageRecords validateRecords
 read-of kind blocks page bytes e =
     let c = context kind blocks page in
-    walk-reads (isLeaf c) (c .mode) (ownRules c) (drop 80 page) (payloadLength page) (count page) (numberOf (walked kind blocks page))
-    (bytes-drop page 80 bytes) (value-is (walked kind blocks page) e) .read
+    walk-reads (isLeaf c) (c .mode) (ownRules c) (drop 80 page) (payloadLength page) (count page) (numberOf (validatePageRecords kind blocks page))
+    (bytes-drop page 80 bytes) (value-is (validatePageRecords kind blocks page) e) .read
 
 good : (reference : TreeRef) (uuid : List ℕ) (kind : TreeKind) (parent : ℕ) (expected : Expected) (blocks : ℕ) (page : List ℕ) → Accepted reference uuid kind parent expected blocks page → Good reference uuid kind page
 good reference uuid kind parent expected blocks page a =
@@ -81,8 +82,12 @@ seen reference uuid kind parent expected blocks page v a views =
     }
 
 module _ (reference : TreeRef) (uuid : List ℕ) (kind : TreeKind) (p q : List ℕ) (v w : PageView) (g : Good reference uuid kind p) (h : Good reference uuid kind q) (a : Seen p v) (b : Seen q w) (s t : List ℕ → List ℕ) where
-  small : (x : List ℕ) → Good reference uuid kind x → payloadLength x ≤ 65535
-  small x f = omega (arith, f .holds .header .payload-fits)
+  -- the payload is as long as the header says
+  payload-length : (x : List ℕ) → Good reference uuid kind x → length (part x 80 (payloadLength x)) ≡ payloadLength x
+  payload-length x f = part-length x 80 (payloadLength x) (omega (arith, f .holds .caller .size, f .holds .header .payload-fits))
+
+  small : (x : List ℕ) → Good reference uuid kind x → length (part x 80 (payloadLength x)) ≤ 65535
+  small x f = omega (arith, payload-length x f, f .holds .header .payload-fits)
 
   abbrev found-in : List ℕ → List ℕ → List ℕ → Finding
   found-in x key scratch = lookupIn (part x 80 (payloadLength x)) (count x) key scratch
@@ -97,17 +102,13 @@ module _ (reference : TreeRef) (uuid : List ℕ) (kind : TreeKind) (p q : List �
       record {
         level-same = omega (arith, levels, totals, a .level-is, b .level-is, a .total-is, b .total-is);
         total-same = omega (arith, levels, totals, a .level-is, b .level-is, a .total-is, b .total-is);
-        found-same = λ key _. looked p v a key (s key) ∙ scratch-free (drop 80 p) (payloadLength p) (count p) (g .reads) (small p g) key (s key) (t key) ∙ ap (λ (x : List ℕ). found-in x key (t key)) e ∙ sym (looked q w b key (t key));
+        found-same = λ key _. looked p v a key (s key) ∙ scratch-free (part p 80 (payloadLength p)) (count p) (g .reads) (small p g) key (s key) (t key) ∙ ap (λ (x : List ℕ). found-in x key (t key)) e ∙ sym (looked q w b key (t key));
       }
-
-  -- the payload is as long as the header says
-  payload-length : (x : List ℕ) → Good reference uuid kind x → length (part x 80 (payloadLength x)) ≡ payloadLength x
-  payload-length x f = length-take (payloadLength x) (drop 80 x) ∙ omega (arith, f .holds .caller .size, f .holds .header .payload-fits, length-drop 80 x)
 
   back : Same v w s t → p ≡ q
   back same =
-      let run = runs-agree (drop 80 p) (drop 80 q) (payloadLength p) (payloadLength q) (count p) (count q) (g .reads) (h .reads) (small p g) (small q h)
-      (record { scratch = s; scratch′ = t; found-same = λ key k. sym (looked p v a key (s key)) ∙ same .found-same key k ∙ looked q w b key (t key) }) in
+      let run = runs-agree (part p 80 (payloadLength p)) (part q 80 (payloadLength q)) (count p) (count q) (g .reads) (h .reads) (small p g) (small q h) s t
+      (λ key k. sym (looked p v a key (s key)) ∙ same .found-same key k ∙ looked q w b key (t key)) in
       let payload : payloadLength p ≡ payloadLength q = sym (payload-length p g) ∙ ap length (run .1) ∙ payload-length q h in
       page-same reference uuid kind p q g h (omega (arith, a .level-is, b .level-is, same .level-same)) (omega (arith, a .total-is, b .total-is, same .total-same)) (run .0) payload (run .1)
 
@@ -121,7 +122,7 @@ pages-agree reference uuid kind parent₁ parent₂ expected₁ expected₂ bloc
 
 -- the first record of those that a lookup answers stands at the front of the part that it hands out; where there is none, that part isn't looked at
 first-handed : (payload : List ℕ) (count : ℕ) (f : Floor) → let a = answerOf (length payload) count f in firstOf (drop (a .from) payload) (a .remaining) ≡ firstOf (part payload (a .from) (a .end - a .from)) (a .remaining)
-unfolding stepOf
+unfolding nextRecord
 first-handed payload count (At i o) = ap (λ (s : List ℕ). firstOf s (count - i)) (sym (part-from payload o))
 first-handed payload count Nothing = refl
 
@@ -129,7 +130,7 @@ pub lookup-is-handed-out : LookupIsHandedOut
 lookup-is-handed-out view key scratch floor next f n =
     let payload : List ℕ = now (view .payload) in
     let rest : List ℕ = now (floor .payload) in
-    let s : Step = stepOf rest (floor .remaining) in
-    let first : lookup view key scratch ≡ stepFound rest s = first-handed payload (view .count) (floorOf payload (view .count) key (length scratch)) ∙ ap₂ firstOf (sym (f .from .bytes)) (sym (f .remaining)) in
+    let s : Step = nextRecord rest (floor .remaining) in
+    let first : lookup view key scratch ≡ stepFound rest s = first-handed payload (view .count) (floorAt payload (view .count) key (length scratch)) ∙ ap₂ firstOf (sym (f .from .bytes)) (sym (f .remaining)) in
     let handed : handedOut next ≡ stepFound rest s = rw (n .found, n .key .bytes, n .value .bytes) refl in
     first ∙ sym handed

@@ -7,15 +7,15 @@ use Rattle.error.specs.declared.Number.{Number}
 use Rattle.error.specs.Answer.{numberOf}
 use Rattle.error.proofs.Tests.{yes-of, no-of}
 use Rattle.volume.specs.declared.TreeKind.{TreeKind}
-use Rattle.page.specs.Page.{walked, totalFits}
+use Rattle.page.specs.Page.{validatePageRecords, totalFits}
 
 -- the code's test of the total that the walk gave, as the definition's
-module _ (kind : TreeKind) (blocks : ℕ) (page : List ℕ) (t : Bool) (r : Number) (n : ℕ) (is : t ≡ totalFits page n) (given : r ≡ Number.Value n) (found : r ≡ walked kind blocks page) where
-  total-is : t ≡ totalFits page (numberOf (walked kind blocks page))
+module _ (kind : TreeKind) (blocks : ℕ) (page : List ℕ) (t : Bool) (r : Number) (n : ℕ) (is : t ≡ totalFits page n) (given : r ≡ Number.Value n) (found : r ≡ validatePageRecords kind blocks page) where
+  total-is : t ≡ totalFits page (numberOf (validatePageRecords kind blocks page))
   total-is = is ∙ ap (totalFits page) (ap numberOf (sym given ∙ found))
 
-  pub total-no : not t ≡ true → totalFits page (numberOf (walked kind blocks page)) ≡ false
+  pub total-no : not t ≡ true → totalFits page (numberOf (validatePageRecords kind blocks page)) ≡ false
   total-no f = no-of f total-is
 
-  pub total-yes : not t ≡ false → totalFits page (numberOf (walked kind blocks page)) ≡ true
+  pub total-yes : not t ≡ false → totalFits page (numberOf (validatePageRecords kind blocks page)) ≡ true
   total-yes f = yes-of f total-is

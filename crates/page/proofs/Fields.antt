@@ -8,7 +8,8 @@ use native.Mathlib.Omega.{arith}
 use borrow.Author.Tests.{ne-eqb, eq-eqb}
 use lib.Dec.{eqb}
 use lib.ListN.{length, take, drop, replicate, length-drop, take-append-drop}
-use lib.Seq.{take-add, drop-drop, ext-getD}
+use lib.Seq.{drop-drop, ext-getD}
+use Rattle.octets.proofs.Parts.{grow}
 use Rattle.octets.specs.Bytes.{byteAt, part, allZero, Bytes}
 use Rattle.octets.specs.Number.{field}
 use Rattle.octets.proofs.Join.{part-length, field-one}
@@ -32,9 +33,6 @@ kind-of-level : (k l : ℕ) → (k ≡ 1) ⊎ (k ≡ 2) → (k ≡ 1 → l ≡ 0
 kind-of-level k l (inl e) leaf inner = rw (eq-eqb l 0 (leaf e)) e
 kind-of-level k l (inr e) leaf inner = let low : 1 ≤ l = inner e .0 in rw (ne-eqb l 0 (omega arith)) e
 
-grow : (p q : List ℕ) (o w : ℕ) → take o p ≡ take o q → part p o w ≡ part q o w → take (o + w) p ≡ take (o + w) q
-grow p q o w a b = take-add o w p ∙ ap₂ _++_ a b ∙ sym (take-add o w q)
-
 -- the bytes with the checksum's four read as zeros
 zeroed-page : (p : List ℕ) → length p ≡ 4096 → zeroed 64 68 p ≡ take 64 p ++ (replicate 4 0 ++ drop 68 p)
 zeroed-page p e = zeroed-parts 64 68 p ∙ ap (λ (n : ℕ). parts (min 64 (min 68 n)) (min 68 n) p) e
@@ -46,7 +44,7 @@ pub record Good (reference : TreeRef) (uuid : List ℕ) (kind : TreeKind) (page 
   pub expected : Expected
   pub blocks : ℕ
   pub holds : PageHolds reference uuid kind parent expected blocks page
-  pub reads : Read (drop 80 page) (payloadLength page) (count page)
+  pub reads : Read (part page 80 (payloadLength page)) (count page)
 
 -- two such pages with the same level, total, count and payload
 module _ (reference : TreeRef) (uuid : List ℕ) (kind : TreeKind) (p q : List ℕ) (g : Good reference uuid kind p) (h : Good reference uuid kind q)

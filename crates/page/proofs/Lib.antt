@@ -2,6 +2,6 @@ pub mod Content
 pub mod Accept
 pub mod Fields
 pub mod Agree
-mod Lent
+pub mod Lent
 mod Viewed
-mod Asked
+pub mod Asked

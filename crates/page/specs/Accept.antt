@@ -16,7 +16,7 @@ use Rattle.volume.specs.declared.TreeKind.{TreeKind}
 use Rattle.volume.specs.References.{treeKindValue, validateBlocks, validatePageRef, validateUuid}
 use Rattle.page.specs.declared.Expected.{Expected}
 use Rattle.page.specs.Header.{magic, pageKind, treeKind, level, selfBlock, generation, count, payloadLength, total, isLevel, isExpected, totalAllowed}
-use Rattle.page.specs.Page.{walked, decodePage}
+use Rattle.page.specs.Page.{validatePageRecords, decodePage}
 
 -- the caller's part
 pub record CallerHolds (reference : TreeRef) (uuid : List ℕ) (kind : TreeKind) (parent : ℕ) (expected : Expected) (blocks : ℕ) (page : List ℕ) : Type 0 where
@@ -52,11 +52,12 @@ pub record HeaderHolds (reference : TreeRef) (uuid : List ℕ) (kind : TreeKind)
 
 -- the records are accepted (the crate walk says plainly when), a leaf's total is theirs, zeros follow, and an internal page has two children
 pub record ContentHolds (kind : TreeKind) (blocks : ℕ) (page : List ℕ) : Type 0 where
-  pub records : numberCheck (walked kind blocks page) ≡ Passed
-  pub leaf-total : pageKind page ≡ 1 → total page ≡ numberOf (walked kind blocks page)
+  pub records : numberCheck (validatePageRecords kind blocks page) ≡ Passed
+  pub leaf-total : pageKind page ≡ 1 → total page ≡ numberOf (validatePageRecords kind blocks page)
   pub padding : allZero (drop (80 + payloadLength page) page) ≡ true
   pub children : pageKind page ≡ 2 → 2 ≤ count page
 
+-- section 4: what holds of an accepted page
 pub record PageHolds (reference : TreeRef) (uuid : List ℕ) (kind : TreeKind) (parent : ℕ) (expected : Expected) (blocks : ℕ) (page : List ℕ) : Type 0 where
   pub caller : CallerHolds reference uuid kind parent expected blocks page
   pub header : HeaderHolds reference uuid kind parent expected blocks page

@@ -9,7 +9,7 @@ use lib.ListN.{length}
 use denote.Ref.{RefT, now}
 use Rattle.error.specs.declared.Check.the-variants.{Passed}
 use Rattle.octets.specs.Bytes.{Bytes}
-use Rattle.lookup.specs.Floor.{answerAt, stepOf}
+use Rattle.lookup.specs.Floor.{floorAnswer, nextRecord}
 use Rattle.walk.specs.Found.{Finding, found, nothing, lookupIn}
 use Rattle.volume.specs.declared.TreeRef.{TreeRef}
 use Rattle.volume.specs.declared.TreeKind.{TreeKind}
@@ -54,6 +54,6 @@ handedOut next = cond (next .found) (found (now (next .key)) (now (next .value))
 abbrev pub LookupIsHandedOut : Type 0
 LookupIsHandedOut =
     (view : PageView) (key scratch : List ℕ) (floor : FloorRecord) (next : Next)
-    → Found (view .payload) (answerAt (now (view .payload)) (view .count) key (length scratch)) floor
-    → Stepped (floor .payload) (stepOf (now (floor .payload)) (floor .remaining)) next
+    → Found (view .payload) (floorAnswer (now (view .payload)) (view .count) key (length scratch)) floor
+    → Stepped (floor .payload) (nextRecord (now (floor .payload)) (floor .remaining)) next
     → lookup view key scratch ≡ handedOut next

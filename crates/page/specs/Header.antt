@@ -27,9 +27,11 @@ magic = 0x43 ∷ 0x46 ∷ 0x53 ∷ 0x58 ∷ 0x50 ∷ 0x41 ∷ 0x47 ∷ 0x45 ∷ 
 abbrev pub pageKind : List ℕ → ℕ
 pageKind page = byteAt page 12
 
+-- section 4: byte 13, the tree's kind
 abbrev pub treeKind : List ℕ → ℕ
 treeKind page = byteAt page 13
 
+-- section 4: byte 14, its level
 abbrev pub level : List ℕ → ℕ
 level page = byteAt page 14
 
@@ -37,15 +39,19 @@ level page = byteAt page 14
 abbrev pub selfBlock : List ℕ → ℕ
 selfBlock page = u64At page 16
 
+-- section 4: u64 at 24, its generation
 abbrev pub generation : List ℕ → ℕ
 generation page = u64At page 24
 
+-- section 4: u16 at 32, how many records it has
 abbrev pub count : List ℕ → ℕ
 count page = u16At page 32
 
+-- section 4: u16 at 34, how many bytes they take
 abbrev pub payloadLength : List ℕ → ℕ
 payloadLength page = u16At page 34
 
+-- section 4: u64 at 56, the data blocks that it counts
 abbrev pub total : List ℕ → ℕ
 total page = u64At page 56
 
@@ -60,6 +66,7 @@ unfoldable pub isLevel : Expected → Bool
 isLevel Expected.Any = true
 isLevel (Expected.Exactly n) = leb n 7
 
+-- section 4: what is asked of the caller's part, in order
 abbrev pub callerDemands : TreeRef → List ℕ → TreeKind → ℕ → Expected → ℕ → List ℕ → List Demand
 callerDemands reference uuid kind parent expected blocks page =
     eqb (length page) 4096 otherwise Corrupt reason.pageLength
@@ -70,6 +77,7 @@ callerDemands reference uuid kind parent expected blocks page =
     ∷ isLevel expected otherwise InvalidInput reason.invalidExpectedPageLevel
     ∷ []
 
+-- section 4: the first that fails answers
 unfoldable pub checkCaller : TreeRef → List ℕ → TreeKind → ℕ → Expected → ℕ → List ℕ → Check
 checkCaller reference uuid kind parent expected blocks page = demands (callerDemands reference uuid kind parent expected blocks page)
 
@@ -88,12 +96,15 @@ formatDemands page =
     ∷ eqb (u16At page 10) 0 otherwise UnsupportedFormat
     ∷ []
 
+-- section 4: the first that fails answers
 unfoldable pub checkFormat : List ℕ → Check
 checkFormat page = demands (formatDemands page)
 
+-- section 4: 1 is a leaf, 2 an internal page
 unfoldable pub isPageKind : List ℕ → Bool
 isPageKind page = eqb (pageKind page) 1 || eqb (pageKind page) 2
 
+-- section 4: a tree's kind is 1 to 4
 unfoldable pub isTreeKind : List ℕ → Bool
 isTreeKind page = isTreeKindValue (treeKind page)
 
@@ -102,6 +113,7 @@ unfoldable pub levelFits : List ℕ → Bool
 levelFits page =
     (not (eqb (pageKind page) 1) || eqb (level page) 0) && (not (eqb (pageKind page) 2) || (leb 1 (level page) && leb (level page) 7))
 
+-- section 4: the level is the expected one, if one is given
 unfoldable pub isExpected : Expected → List ℕ → Bool
 isExpected Expected.Any page = true
 isExpected (Expected.Exactly n) page = eqb n (level page)
@@ -114,6 +126,7 @@ reservedZero page = eqb (byteAt page 15) 0 && (allZero (part page 36 4) && allZe
 unfoldable pub isOfTree : TreeKind → List ℕ → Bool
 isOfTree kind page = eqb (treeKind page) (treeKindValue kind)
 
+-- section 4: what is asked of kinds, level and reserved bytes, in order
 abbrev pub kindDemands : TreeKind → Expected → List ℕ → List Demand
 kindDemands kind expected page =
     isPageKind page otherwise Corrupt reason.pageKind
@@ -124,6 +137,7 @@ kindDemands kind expected page =
     ∷ reservedZero page otherwise Corrupt reason.pageReservedBytes
     ∷ []
 
+-- section 4: the first that fails answers
 unfoldable pub checkKind : TreeKind → Expected → List ℕ → Check
 checkKind kind expected page = demands (kindDemands kind expected page)
 
@@ -143,6 +157,7 @@ totalAllowed TreeKind.Allocation page = eqb (total page) 0
 totalAllowed TreeKind.Cleanup page = eqb (total page) 0
 totalAllowed TreeKind.Workspace page = eqb (total page) 0
 
+-- section 4: what is asked of the page's identity and numbers, in order
 abbrev pub identityDemands : TreeRef → List ℕ → TreeKind → ℕ → ℕ → List ℕ → List Demand
 identityDemands reference uuid kind parent blocks page =
     isReferred reference parent page otherwise Corrupt reason.pageIdentityOrGeneration
@@ -152,11 +167,13 @@ identityDemands reference uuid kind parent blocks page =
     ∷ totalAllowed kind page otherwise Corrupt reason.nonCatalogDataBlockTotal
     ∷ []
 
+-- section 4: the first that fails answers
 unfoldable pub checkIdentity : TreeRef → List ℕ → TreeKind → ℕ → ℕ → List ℕ → Check
 checkIdentity reference uuid kind parent blocks page = demands (identityDemands reference uuid kind parent blocks page)
 
 -- ---- the header
 
+-- section 4: all checks of the header, group by group
 abbrev pub headerDemands : TreeRef → List ℕ → TreeKind → ℕ → Expected → ℕ → List ℕ → List Demand
 headerDemands reference uuid kind parent expected blocks page =
     passing (checkCaller reference uuid kind parent expected blocks page)
@@ -165,5 +182,6 @@ headerDemands reference uuid kind parent expected blocks page =
     ∷ passing (checkIdentity reference uuid kind parent blocks page)
     ∷ []
 
+-- section 4: the first that fails answers
 unfoldable pub validatePageHeader : TreeRef → List ℕ → TreeKind → ℕ → Expected → ℕ → List ℕ → Check
 validatePageHeader reference uuid kind parent expected blocks page = demands (headerDemands reference uuid kind parent expected blocks page)

@@ -32,8 +32,8 @@ context kind blocks page = record {
 }
 
 -- the walk: lent the block from byte 80 on, it answers a leaf's total
-unfoldable pub walked : TreeKind → ℕ → List ℕ → Number
-walked kind blocks page = validateRecords (drop 80 page) (payloadLength page) (count page) (context kind blocks page)
+unfoldable pub validatePageRecords : TreeKind → ℕ → List ℕ → Number
+validatePageRecords kind blocks page = validateRecords (drop 80 page) (payloadLength page) (count page) (context kind blocks page)
 
 -- a leaf's total is what the walk found
 unfoldable pub totalFits : List ℕ → ℕ → Bool
@@ -50,12 +50,13 @@ enoughChildren page = not (eqb (pageKind page) 2) || leb 2 (count page)
 -- the records, and what comes after them
 abbrev pub contentDemands : TreeKind → ℕ → List ℕ → List Demand
 contentDemands kind blocks page =
-    passing (numberCheck (walked kind blocks page))
-    ∷ totalFits page (numberOf (walked kind blocks page)) otherwise Corrupt reason.leafDataBlockTotal
+    passing (numberCheck (validatePageRecords kind blocks page))
+    ∷ totalFits page (numberOf (validatePageRecords kind blocks page)) otherwise Corrupt reason.leafDataBlockTotal
     ∷ paddingZero page otherwise Corrupt reason.pagePadding
     ∷ enoughChildren page otherwise Corrupt reason.internalPageHasTooFewChildren
     ∷ []
 
+-- section 4: the first that fails answers
 unfoldable pub checkContent : TreeKind → ℕ → List ℕ → Check
 checkContent kind blocks page = demands (contentDemands kind blocks page)
 
@@ -66,6 +67,7 @@ pageDemands reference uuid kind parent expected blocks page =
     ∷ passing (checkContent kind blocks page)
     ∷ []
 
+-- section 4: the first that fails answers
 unfoldable pub checkPage : TreeRef → List ℕ → TreeKind → ℕ → Expected → ℕ → List ℕ → Check
 checkPage reference uuid kind parent expected blocks page = demands (pageDemands reference uuid kind parent expected blocks page)
 
@@ -87,6 +89,7 @@ acceptedPage page = record {
   end = 80 + payloadLength page;
 }
 
+-- section 4: `decode_page`, in numbers
 unfoldable pub decodePage : TreeRef → List ℕ → TreeKind → ℕ → Expected → ℕ → List ℕ → Page
 decodePage reference uuid kind parent expected blocks page =
     outcome (pageDemands reference uuid kind parent expected blocks page) refusedPage (acceptedPage page)

@@ -28,6 +28,7 @@ verifiedDemands reference uuid kind parent expected page =
     ∷ within page 80 (payloadLength page) otherwise Corrupt reason.pagePayloadLength
     ∷ []
 
+-- section 4: `verified_page_view`, in numbers
 unfoldable pub verifiedPageView : TreeRef → List ℕ → TreeKind → ℕ → Expected → List ℕ → Page
 verifiedPageView reference uuid kind parent expected page =
     outcome (verifiedDemands reference uuid kind parent expected page) refusedPage (acceptedPage page)
@@ -40,6 +41,7 @@ draftDemands page =
     ∷ within page 80 (payloadLength page) otherwise Corrupt reason.draftPayloadLength
     ∷ []
 
+-- section 4: the numbers of a draft; it has no total yet
 abbrev pub draftNumbers : List ℕ → Page
 draftNumbers page = record {
   class = 0;
@@ -51,5 +53,6 @@ draftNumbers page = record {
   end = 80 + payloadLength page;
 }
 
+-- section 4: `draft_page_view`, in numbers
 unfoldable pub draftPageView : List ℕ → Page
 draftPageView page = outcome (draftDemands page) refusedPage (draftNumbers page)

@@ -5,7 +5,7 @@ pub mod view;
 ghost use mathlib.Core.Path.{_≡_};
 ghost use Rattle.octets.specs.Number.{within};
 ghost use Rattle.page.specs.Header.{expectedOf, payloadLength};
-ghost use Rattle.page.specs.Page.{walked, totalFits, paddingZero, enoughChildren, checkContent, checkPage, refusedPage, acceptedPage, decodePage};
+ghost use Rattle.page.specs.Page.{validatePageRecords, totalFits, paddingZero, enoughChildren, checkContent, checkPage, refusedPage, acceptedPage, decodePage};
 ghost use Rattle.page.specs.Unchecked.{isAskedFor, verifiedPageView, draftNumbers, draftPageView};
 ghost use Rattle.page.specs.View.{Views};
 use error::Check;
@@ -74,8 +74,8 @@ fn enough_children(page: &[u8]) -> bool
 }
 
 // The walk over the page's records, lent the block from byte 80 on.
-fn walk_records(kind: TreeKind, blocks: u64, page: &[u8]) -> Number
-    ensures { λ r. ⌜ r ≡ walked kind blocks (now (page .entry)) ⌝ }
+fn validate_page_records(kind: TreeKind, blocks: u64, page: &[u8]) -> Number
+    ensures { λ r. ⌜ r ≡ validatePageRecords kind blocks (now (page .entry)) ⌝ }
 {
     let count = octets::u16_at(page, PageView::COUNT_OFFSET) as usize;
     let payload = octets::u16_at(page, PageView::PAYLOAD_LENGTH_OFFSET) as usize;
@@ -106,7 +106,7 @@ fn padding_zero(page: &[u8]) -> bool
 fn check_content(kind: TreeKind, blocks: u64, page: &[u8]) -> Check
     ensures { λ r. ⌜ r ≡ checkContent kind blocks (now (page .entry)) ⌝ }
 {
-    match walk_records(kind, blocks, page) {
+    match validate_page_records(kind, blocks, page) {
         Number::Refused(e) => Check::Refused(e),
         Number::Value(found) => {
             if !total_fits(page, found) {

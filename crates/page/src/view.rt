@@ -3,7 +3,7 @@ ghost use mathlib.Core.Path.{_≡_};
 ghost use Prim.Native.Nat.{_*_, _<_};
 ghost use lib.Dec.{eqb};
 ghost use lib.ListN.{length};
-ghost use Rattle.lookup.specs.Floor.{answerAt, scratchOf, stepOf};
+ghost use Rattle.lookup.specs.Floor.{floorAnswer, scratchOf, nextRecord};
 ghost use Rattle.page.specs.View.{Views, Found, Stepped};
 use crate::Page;
 
@@ -87,7 +87,7 @@ pub struct FloorRecord<'a> {
 
 impl<'a> PageView<'a> {
     pub fn floor_record(self, key: &[u8], offsets: &mut [u16]) -> FloorRecord<'a>
-        ensures { λ r. ⌜ Found (self .entry .payload) (answerAt (now (self .entry .payload)) (self .entry .count) (now (key .entry)) (length (now (offsets .entry)))) r × (now (offsets .exit) ≡ scratchOf (now (self .entry .payload)) (self .entry .count) (now (offsets .entry))) ⌝ }
+        ensures { λ r. ⌜ Found (self .entry .payload) (floorAnswer (now (self .entry .payload)) (self .entry .count) (now (key .entry)) (length (now (offsets .entry)))) r × (now (offsets .exit) ≡ scratchOf (now (self .entry .payload)) (self .entry .count) (now (offsets .entry))) ⌝ }
     {
         let a = lookup::floor_answer(self.payload, self.count, key, offsets);
         FloorRecord {
@@ -141,7 +141,7 @@ pub struct Next<'a> {
 
 impl<'a> Records<'a> {
     pub fn next(self) -> Next<'a>
-        ensures { λ r. ⌜ Stepped (self .entry .payload) (stepOf (now (self .entry .payload)) (self .entry .remaining)) r ⌝ }
+        ensures { λ r. ⌜ Stepped (self .entry .payload) (nextRecord (now (self .entry .payload)) (self .entry .remaining)) r ⌝ }
     {
         let s = lookup::next_record(self.payload, self.remaining);
         Next {

@@ -33,21 +33,12 @@ fn place(texts: &[usize], i: usize) -> usize {
     if i < texts.len() { texts[i] } else { 0 }
 }
 
-fn part(input: &[u8], start: usize, end: usize) -> &[u8] {
-    if end <= input.len() {
-        if start <= end {
-            return &input[start..end];
-        }
-    }
-    &input[..0]
-}
-
 // A string: its start and its end are kept one behind the other.
 pub fn text<'a>(input: &'a [u8], texts: &[usize], i: usize) -> &'a [u8] {
     if i < 4 {
-        part(input, place(texts, 2 * i), place(texts, 2 * i + 1))
+        octets::span(input, place(texts, 2 * i), place(texts, 2 * i + 1))
     } else {
-        part(input, 0, 0)
+        octets::span(input, 0, 0)
     }
 }
 

@@ -1,23 +1,15 @@
 // Standard input through a window: its bytes from `at` to `have` are read and not yet answered.
 use libc::STDIN_FILENO;
 
-pub fn held(window: &[u8], at: usize, have: usize) -> &[u8] {
-    if have <= window.len() {
-        if at <= have {
-            return &window[at..have];
-        }
-    }
-    &window[..0]
-}
-
 // The place `by` behind `at`, and no later than `have`.
 pub fn moved(at: usize, by: usize, have: usize) -> usize {
-    if at <= have {
-        if by <= have - at {
-            return at + by;
-        }
+    if have < at {
+        return have;
     }
-    have
+    if have - at < by {
+        return have;
+    }
+    at + by
 }
 
 // Brings the bytes from `at` to `have` to the window's front and answers how many they are.

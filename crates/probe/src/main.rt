@@ -71,6 +71,9 @@ fn told(input: &[u8], numbers: &[u64], texts: &[usize], out: &mut [u8], at: usiz
     let n = arguments::first_numbers(numbers);
     let a = arguments::text(input, texts, 0);
     let b = arguments::text(input, texts, 1);
+    if call == 43 {
+        return pages::handed(n, a, b, arguments::text(input, texts, 2), out, at);
+    }
     answer(call, n, a, b, out, at)
 }
 
@@ -134,14 +137,14 @@ fn following(place: u64) -> u64 {
 
 // A proved loop has to end, and nothing says that the input does: the turns are counted down from a number that no run uses up.
 fn run(window: &mut [u8], out: &mut [u8]) {
-    let mut done = report::put(out, 0, b"probe 1\n");
+    let mut done = octets::put(out, 0, b"probe 1\n");
     let mut place: u64 = 0;
     let mut at: usize = 0;
     let mut have: usize = 0;
     let mut turns: u64 = 0xFFFF_FFFF_FFFF_FFFF;
     while turns > 0 {
         turns -= 1;
-        match one_call(place, input::held(window, at, have), out, done) {
+        match one_call(place, octets::span(window, at, have), out, done) {
             Turn::Answered { length, used } => {
                 at = input::moved(at, length, have);
                 done = used;

@@ -1,6 +1,5 @@
 // A line is put together in a lent buffer; each function answers the place behind what it wrote.
 use crate::fields::Fields;
-use crate::input::held;
 use libc::STDOUT_FILENO;
 
 fn digit(value: u8) -> u8 {
@@ -20,7 +19,7 @@ fn hex_byte(out: &mut [u8], at: usize, byte: u8) -> usize {
 
 // A space, `x` and the bytes in hexadecimal.
 pub fn hex(out: &mut [u8], at: usize, text: &[u8]) -> usize {
-    let mut used = report::put(out, at, b" x");
+    let mut used = octets::put(out, at, b" x");
     for i in 0..text.len() {
         used = hex_byte(out, used, text[i]);
     }
@@ -35,7 +34,7 @@ fn hex_entry(out: &mut [u8], at: usize, entry: u16) -> usize {
 
 // A space, `x` and four digits for each entry.
 pub fn hex_entries(out: &mut [u8], at: usize, entries: &[u16]) -> usize {
-    let mut used = report::put(out, at, b" x");
+    let mut used = octets::put(out, at, b" x");
     for i in 0..entries.len() {
         used = hex_entry(out, used, entries[i]);
     }
@@ -44,7 +43,7 @@ pub fn hex_entries(out: &mut [u8], at: usize, entries: &[u16]) -> usize {
 
 fn counted(out: &mut [u8], at: usize, value: u64, counts: bool) -> usize {
     if counts {
-        report::field(out, at, value)
+        report::number_field(out, at, value)
     } else {
         at
     }
@@ -66,7 +65,7 @@ pub fn fields(out: &mut [u8], at: usize, told: Fields) -> usize {
 
 // Writes what is used, so that nothing is.
 pub fn flush(out: &[u8], used: usize) -> usize {
-    io::write_all(STDOUT_FILENO, held(out, 0, used));
+    io::write_all(STDOUT_FILENO, octets::span(out, 0, used));
     0
 }
 

@@ -1,4 +1,4 @@
-// Calls 36 to 40 and 42: pages, their records and lookups.
+// Calls 36 to 40, 42 and 43: pages, their records and lookups.
 use crate::arguments::Numbers;
 use crate::arguments::byte;
 use crate::arguments::mode;
@@ -9,6 +9,8 @@ use crate::fields::four;
 use crate::fields::number;
 use crate::fields::six;
 use crate::output;
+use hand::First;
+use hand::Handed;
 use lookup::Answer;
 use page::Page;
 use walk::RecordValidation;
@@ -130,6 +132,96 @@ fn validate_records(n: Numbers, rest: &[u8]) -> Fields {
         mode: mode(n.e),
     };
     number(walk::validate_records(rest, n.f as usize, n.g as usize, context))
+}
+
+fn one_if(is: bool) -> u64 {
+    if is { 1 } else { 0 }
+}
+
+// Class, reason, level, total and count of the view, whether a record is found, and its index.
+fn told_view(h: Handed) -> Fields {
+    let f = h.first;
+    let values = [
+        h.class as u64,
+        h.reason as u64,
+        h.level as u64,
+        h.data_blocks,
+        h.count as u64,
+        one_if(f.found),
+        f.index as u64,
+    ];
+    Fields { count: 7, values }
+}
+
+// How many records there are from it on, whether one is given, its key's length and checksum, its value's, and how many are left.
+fn told_first(f: First) -> Fields {
+    let values = [
+        f.remaining as u64,
+        one_if(f.given),
+        f.key_len as u64,
+        f.key_sum as u64,
+        f.value_len as u64,
+        f.value_sum as u64,
+        f.left as u64,
+    ];
+    Fields { count: 7, values }
+}
+
+// The first record of a lookup on a page's view, and the scratch as it is left.
+fn handed_over(
+    n: Numbers,
+    uuid: &[u8],
+    page: &[u8],
+    key: &[u8],
+    scratch: &mut [u16],
+    out: &mut [u8],
+    at: usize,
+) -> usize {
+    let id = octets::copy16(uuid);
+    let handed = hand::hand_out(
+        page,
+        reference(n.a, n.b),
+        &id,
+        volume::tree_kind_of(n.c),
+        n.d,
+        page::expected_of(byte(n.e)),
+        n.f,
+        key,
+        scratch,
+    );
+    let viewed = output::fields(out, at, told_view(handed));
+    let first = handed.first;
+    let told = output::fields(out, viewed, told_first(first));
+    output::hex_entries(out, told, scratch)
+}
+
+fn handed_in(
+    n: Numbers,
+    uuid: &[u8],
+    page: &[u8],
+    key: &[u8],
+    space: &mut [u16],
+    out: &mut [u8],
+    at: usize,
+) -> usize {
+    let length = n.g as usize;
+    if space.len() < length {
+        return at;
+    }
+    handed_over(n, uuid, page, key, &mut space[0..length], out, at)
+}
+
+// The scratch's entries are 65,535 before the lookup.
+pub fn handed(
+    n: Numbers,
+    uuid: &[u8],
+    page: &[u8],
+    key: &[u8],
+    out: &mut [u8],
+    at: usize,
+) -> usize {
+    let mut scratch = [65_535u16; 4096];
+    handed_in(n, uuid, page, key, &mut scratch, out, at)
 }
 
 // Calls 36 to 38, 40 and 42.

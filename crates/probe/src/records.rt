@@ -11,14 +11,6 @@ use crate::fields::refused;
 use group::Slot;
 use record::Child;
 
-// A number in two's complement.
-fn signed(word: u64) -> i64 {
-    if word < 0x8000_0000_0000_0000 {
-        return word as i64;
-    }
-    -1 - (0xFFFF_FFFF_FFFF_FFFF - word) as i64
-}
-
 fn child(answer: Child) -> Fields {
     match answer {
         Child::Reference(r) => four(0, 0, r.block, r.generation),
@@ -42,7 +34,10 @@ fn compact_group(group: &[u8]) -> Fields {
 // Calls 20 to 23.
 pub fn answer_inode(call: u8, n: Numbers, a: &[u8]) -> Fields {
     match call {
-        20 => check(catalog::validate_timestamp_range(signed(n.a), word(n.b), mode(n.c))),
+        20 => {
+            let seconds = catalog::signed_number(n.a);
+            check(catalog::validate_timestamp_range(seconds, word(n.b), mode(n.c)))
+        }
         21 => check(catalog::validate_owner_id(n.a, mode(n.b))),
         22 => check(catalog::validate_symlink_target(a, mode(n.a))),
         _ => check(catalog::validate_inode(a, n.a, mode(n.b))),

@@ -25,12 +25,12 @@ fn put_text(out: &mut [u8], at: usize, text: &[u8], accepted: bool) -> usize {
     if accepted {
         output::hex(out, at, text)
     } else {
-        report::put(out, at, b" x")
+        octets::put(out, at, b" x")
     }
 }
 
 fn put_label(out: &mut [u8], at: usize, label: Label, accepted: bool) -> usize {
-    let sized = report::field(out, at, label.len as u64);
+    let sized = report::number_field(out, at, label.len as u64);
     let bytes = label.bytes;
     put_text(out, sized, &bytes, accepted)
 }
@@ -147,12 +147,13 @@ pub fn choice(n: Numbers, first: &[u8], second: &[u8]) -> Fields {
 
 // A number of the root whose numbers start at a place.
 fn given(numbers: &[u64], start: usize, i: usize) -> u64 {
-    if start < 64 {
-        if i < 64 {
-            return number(numbers, start + i);
-        }
+    if 64 <= start {
+        return 0;
     }
-    0
+    if 64 <= i {
+        return 0;
+    }
+    number(numbers, start + i)
 }
 
 fn given_reference(numbers: &[u64], start: usize, i: usize) -> TreeRef {

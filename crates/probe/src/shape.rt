@@ -12,6 +12,10 @@ pub enum Front {
     Outside,
 }
 
+fn least(letter: u8) -> u64 {
+    if letter == b'k' { 1 } else { 0 }
+}
+
 fn most(letter: u8) -> u64 {
     match letter {
         b'w' => 0xFFFF_FFFF,
@@ -26,10 +30,8 @@ fn most(letter: u8) -> u64 {
 }
 
 fn is_allowed(letter: u8, value: u64) -> bool {
-    if letter == b'k' {
-        if value == 0 {
-            return false;
-        }
+    if value < least(letter) {
+        return false;
     }
     value <= most(letter)
 }
@@ -177,6 +179,7 @@ fn numbers_third(call: u8) -> [u8; 7] {
         37 => *b"nnknb..",
         39 => *b"nes....",
         42 => *b"kbnnfnn",
+        43 => *b"nnknbne",
         _ => *b".......",
     }
 }
@@ -198,13 +201,14 @@ fn texts_of(call: u8) -> [u8; 4] {
         5 | 36 | 37 => *b"ut..",
         11 | 25..=29 | 35 | 39 => *b"tt..",
         41 => *b"ulul",
+        43 => *b"utt.",
         _ => *b"t...",
     }
 }
 
 fn is_known(call: u8) -> bool {
     match call {
-        1..=42 => true,
+        1..=43 => true,
         _ => false,
     }
 }

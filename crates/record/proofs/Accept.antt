@@ -37,21 +37,21 @@ taken-exactly value start end = (there, back)
     back : ((block : ℕ) → start ≤ block → block < end → blockTaken value block ≡ true) → every (λ (i : ℕ). blockTaken value (start + i)) (end - start) ≡ true
     back h = every-all (λ (i : ℕ). blockTaken value (start + i)) (end - start) (λ i l. h (start + i) (omega arith) (omega arith))
 
-retirement-accepted : (key value : List ℕ) (blocks page : ℕ) (mode : Validation) → (validateRetirement key value blocks page mode ≡ Passed) ↔ AllHold (retirementDemands key value blocks page mode)
+retirement-accepted : (key value : List ℕ) (blocks pageGeneration : ℕ) (mode : Validation) → (validateRetirement key value blocks pageGeneration mode ≡ Passed) ↔ AllHold (retirementDemands key value blocks pageGeneration mode)
 unfolding validateRetirement
-retirement-accepted key value blocks page mode = accepted-exactly (retirementDemands key value blocks page mode)
+retirement-accepted key value blocks pageGeneration mode = accepted-exactly (retirementDemands key value blocks pageGeneration mode)
 
-detached-accepted : (key value : List ℕ) (blocks page : ℕ) (mode : Validation) → (validateDetachedTree key value blocks page mode ≡ Passed) ↔ AllHold (detachedTreeDemands key value blocks page mode)
+detached-accepted : (key value : List ℕ) (blocks pageGeneration : ℕ) (mode : Validation) → (validateDetachedTree key value blocks pageGeneration mode ≡ Passed) ↔ AllHold (detachedTreeDemands key value blocks pageGeneration mode)
 unfolding validateDetachedTree
-detached-accepted key value blocks page mode = accepted-exactly (detachedTreeDemands key value blocks page mode)
+detached-accepted key value blocks pageGeneration mode = accepted-exactly (detachedTreeDemands key value blocks pageGeneration mode)
 
 orphan-accepted : (key value : List ℕ) (mode : Validation) → (validateOrphanMarker key value mode ≡ Passed) ↔ AllHold (orphanMarkerDemands key value mode)
 unfolding validateOrphanMarker
 orphan-accepted key value mode = accepted-exactly (orphanMarkerDemands key value mode)
 
-cleanup-accepted : (key value : List ℕ) (blocks page : ℕ) (mode : Validation) → (validateCleanupKeyValue key value blocks page mode ≡ Passed) ↔ AllHold (cleanupDemands key value blocks page mode)
+cleanup-accepted : (key value : List ℕ) (blocks pageGeneration : ℕ) (mode : Validation) → (validateCleanupKeyValue key value blocks pageGeneration mode ≡ Passed) ↔ AllHold (cleanupDemands key value blocks pageGeneration mode)
 unfolding validateCleanupKeyValue
-cleanup-accepted key value blocks page mode = accepted-exactly (cleanupDemands key value blocks page mode)
+cleanup-accepted key value blocks pageGeneration mode = accepted-exactly (cleanupDemands key value blocks pageGeneration mode)
 
 workspace-key-accepted : (key : List ℕ) (blocks : ℕ) (mode : Validation) → (validateWorkspaceKey key blocks mode ≡ Passed) ↔ AllHold (workspaceKeyDemands key blocks mode)
 unfolding validateWorkspaceKey
@@ -61,9 +61,9 @@ workspace-run-accepted : (key value : List ℕ) (blocks : ℕ) (mode : Validatio
 unfolding validateWorkspaceRun
 workspace-run-accepted key value blocks mode = accepted-exactly (workspaceRunDemands key value blocks mode)
 
-leaf-accepted : (kind : TreeKind) (key value : List ℕ) (blocks page : ℕ) (mode : Validation) (n : ℕ) → (validateLeafRecord kind key value blocks page mode ≡ Number.Value n) ↔ (AllHold (leafDemands kind key value blocks page mode) × (n ≡ leafBlocks kind key value))
+leaf-accepted : (kind : TreeKind) (key value : List ℕ) (blocks pageGeneration : ℕ) (mode : Validation) (n : ℕ) → (validateLeafRecord kind key value blocks pageGeneration mode ≡ Number.Value n) ↔ (AllHold (leafDemands kind key value blocks pageGeneration mode) × (n ≡ leafBlocks kind key value))
 unfolding validateLeafRecord
-leaf-accepted kind key value blocks page mode n = number-exactly (leafDemands kind key value blocks page mode) (leafBlocks kind key value) n
+leaf-accepted kind key value blocks pageGeneration mode n = number-exactly (leafDemands kind key value blocks pageGeneration mode) (leafBlocks kind key value) n
 
 blocks-accepted : (kind : TreeKind) (key value : List ℕ) (blocks generation n : ℕ) → (leafRecordBlocks kind key value blocks generation ≡ Number.Value n) ↔ (AllHold (recordSizeDemands key value ++ leafDemands kind key value blocks generation Input) × (n ≡ leafBlocks kind key value))
 unfolding leafRecordBlocks validateLeafRecord

@@ -1,10 +1,9 @@
 -- Records by their kind.
 use mathlib.Core.Path.{_≡_, refl, sym, ap, _∙_}
-use mathlib.Core.Bool.{Bool, true, false, not, _&&_, _||_}
+use mathlib.Core.Bool.{Bool, true, false, not}
 use mathlib.Core.List.{List, [], _∷_}
 use Prim.Native.Nat.{ℕ, _+_, _-_}
 use borrow.Author.Tests.{ne-eqb}
-use lib.Dec.{eqb}
 use lib.ListN.{length}
 use Rattle.error.specs.declared.Error.{Error}
 use Rattle.error.specs.declared.Validation.{Validation}
@@ -12,9 +11,10 @@ use Rattle.error.specs.declared.Check.{Check}
 use Rattle.error.specs.declared.Check.the-variants.{Passed, Refused}
 use Rattle.error.specs.declared.Number.{Number}
 use Rattle.error.specs.Answer.{violationOf, numberCheck}
-use Rattle.error.specs.Demand.{Demand, _otherwise_, passing, outcome, demands}
+use Rattle.error.specs.Demand.{_otherwise_, passing, outcome, demands}
 use Rattle.error.specs.Reason as reason
-use Rattle.error.proofs.Exactly.{by, outcome-by, flat, front}
+use Rattle.error.proofs.Tests.{is-of}
+use Rattle.error.proofs.Exactly.{number-exactly, flat, front}
 use Rattle.error.proofs.Chain.{inner-holds, last-check, chain}
 use Rattle.group.specs.Group.{validateChecksumGroup}
 use Rattle.octets.specs.Number.{u64At}
@@ -28,43 +28,44 @@ use Rattle.catalog.specs.Inode.{validateInode}
 use Rattle.catalog.specs.Entry.{validateDirectoryEntry}
 use Rattle.catalog.specs.Extent.{extentCount, extentDemands, validateExtent}
 use Rattle.record.specs.Cleanup.{cleanupKind, cleanupNumber, cleanupBlock, validateRetirement, detachedOwnerDemands, isKindRange, notNewerDemands, validateDetachedTree, validateOrphanMarker, cleanupRecord, validateCleanupKeyValue}
-use Rattle.record.specs.Inside.{detachedOwners, detachedTreeGroups, countsNone, catalogLeaf}
+use Rattle.record.specs.Inside.{detachedOwners, detachedTreeGroups, isRetirementKey, isOwnerKey, countsNone, catalogLeaf}
 use Rattle.record.specs.Workspace.{runEndDemands, validateWorkspaceRun}
 use Rattle.record.specs.Allocation.{validateAllocationGroup}
 use Rattle.record.specs.Internal.{retirementKey, cleanupInternalKey}
 use Rattle.record.specs.Leaf.{uncountedRecord, catalogRecord, catalogBlocks, validateLeafRecord}
 
 -- ---- cleanup records
-module _ (key value : List ℕ) (blocks page : ℕ) (mode : Validation) (kind : ℕ) (e : kind ≡ cleanupKind key) (r : Check) where
-  pub is-retirement : kind ≡ 1 → r ≡ validateRetirement key value blocks page mode → r ≡ cleanupRecord key value blocks page mode
+module _ (key value : List ℕ) (blocks pageGeneration : ℕ) (mode : Validation) (kind : ℕ) (e : kind ≡ cleanupKind key) (r : Check) where
+  pub is-retirement : kind ≡ 1 → r ≡ validateRetirement key value blocks pageGeneration mode → r ≡ cleanupRecord key value blocks pageGeneration mode
   unfolding cleanupRecord
   is-retirement k p = p ∙ rw (← e, k)
 
-  pub is-detached : kind ≡ 2 → r ≡ validateDetachedTree key value blocks page mode → r ≡ cleanupRecord key value blocks page mode
+  pub is-detached : kind ≡ 2 → r ≡ validateDetachedTree key value blocks pageGeneration mode → r ≡ cleanupRecord key value blocks pageGeneration mode
   unfolding cleanupRecord
   is-detached k p = p ∙ rw (← e, k)
 
-  pub is-orphan : kind ≡ 3 → r ≡ validateOrphanMarker key value mode → r ≡ cleanupRecord key value blocks page mode
+  pub is-orphan : kind ≡ 3 → r ≡ validateOrphanMarker key value mode → r ≡ cleanupRecord key value blocks pageGeneration mode
   unfolding cleanupRecord
   is-orphan k p = p ∙ rw (← e, k)
 
-pub is-unknown : (key value : List ℕ) (blocks page : ℕ) (mode : Validation) (kind : ℕ) → kind ≡ cleanupKind key → (x : Error) → (kind ≡ 1 → ⊥) → (kind ≡ 2 → ⊥) → (kind ≡ 3 → ⊥) → x ≡ violationOf mode reason.unknownCleanupRecordKind → Refused x ≡ cleanupRecord key value blocks page mode
+pub is-unknown : (key value : List ℕ) (blocks pageGeneration : ℕ) (mode : Validation) (kind : ℕ) → kind ≡ cleanupKind key → (x : Error) → (kind ≡ 1 → ⊥) → (kind ≡ 2 → ⊥) → (kind ≡ 3 → ⊥) → x ≡ violationOf mode reason.unknownCleanupRecordKind → Refused x ≡ cleanupRecord key value blocks pageGeneration mode
 unfolding cleanupRecord
-is-unknown key value blocks page mode kind e x a b c p = ap Refused p ∙ rw (← e, ne-eqb kind 1 a, ne-eqb kind 2 b, ne-eqb kind 3 c)
+is-unknown key value blocks pageGeneration mode kind e x a b c p = ap Refused p ∙ rw (← e, ne-eqb kind 1 a, ne-eqb kind 2 b, ne-eqb kind 3 c)
 
 -- ---- keys of internal cleanup pages
-module _ (key : List ℕ) (blocks page : ℕ) (mode : Validation) (kind : ℕ) (e : kind ≡ cleanupKind key) where
-  pub key-retirement : (r : Check) (x y : ℕ) → (eqb kind 1 && eqb (length key) 17) ≡ true → r ≡ retirementKey x y blocks page mode → x ≡ cleanupNumber key → y ≡ cleanupBlock key → r ≡ cleanupInternalKey key blocks page mode
+module _ (key : List ℕ) (blocks pageGeneration : ℕ) (mode : Validation) (kind : ℕ) (e : kind ≡ cleanupKind key) (a : Bool) (is : a ≡ isRetirementKey kind (length key)) where
+  pub key-retirement : a ≡ true → (r : Check) (x y : ℕ) → r ≡ retirementKey x y blocks pageGeneration mode → x ≡ cleanupNumber key → y ≡ cleanupBlock key → r ≡ cleanupInternalKey key blocks pageGeneration mode
   unfolding cleanupInternalKey
-  key-retirement r x y t p f g = p ∙ rw (← e, t, f, g)
+  key-retirement t r x y p f g = p ∙ rw (← e, is-of t is, f, g)
 
-  pub key-owner : (r : Check) (x : ℕ) → (eqb kind 1 && eqb (length key) 17) ≡ false → ((eqb kind 2 || eqb kind 3) && eqb (length key) 9) ≡ true → r ≡ validateOwnerId x mode → x ≡ cleanupNumber key → r ≡ cleanupInternalKey key blocks page mode
-  unfolding cleanupInternalKey
-  key-owner r x t u p f = p ∙ rw (← e, t, u, f)
+  module _ (t : a ≡ false) (b : Bool) (owner : b ≡ isOwnerKey kind (length key)) where
+    pub key-owner : b ≡ true → (r : Check) (x : ℕ) → r ≡ validateOwnerId x mode → x ≡ cleanupNumber key → r ≡ cleanupInternalKey key blocks pageGeneration mode
+    unfolding cleanupInternalKey
+    key-owner u r x p f = p ∙ rw (← e, is-of t is, is-of u owner, f)
 
-  pub key-neither : (x : Error) → (eqb kind 1 && eqb (length key) 17) ≡ false → ((eqb kind 2 || eqb kind 3) && eqb (length key) 9) ≡ false → x ≡ violationOf mode reason.invalidCleanupInternalKey → Refused x ≡ cleanupInternalKey key blocks page mode
-  unfolding cleanupInternalKey
-  key-neither x t u p = ap Refused p ∙ rw (← e, t, u)
+    pub key-neither : b ≡ false → (x : Error) → x ≡ violationOf mode reason.invalidCleanupInternalKey → Refused x ≡ cleanupInternalKey key blocks pageGeneration mode
+    unfolding cleanupInternalKey
+    key-neither u x p = ap Refused p ∙ rw (← e, is-of t is, is-of u owner)
 
 -- ---- catalog records
 module _ (key value : List ℕ) (blocks : ℕ) (mode : Validation) (kind : ℕ) (e : kind ≡ keyKind key) (r : Check) where
@@ -95,17 +96,9 @@ unfolding outcome
 none-again Passed = refl
 none-again (Refused x) = refl
 
--- a chain that gave a number gave its own
-pub own-value : (ds : List Demand) (v w : ℕ) → outcome ds Number.Refused (Number.Value v) ≡ Number.Value w → w ≡ v
-own-value ds v w p = go (demands ds) (sym (outcome-by ds Number.Refused (Number.Value v)) ∙ p)
-  where
-    go : (c : Check) → by c Number.Refused (Number.Value v) ≡ Number.Value w → w ≡ v
-    go Passed q = cc
-    go (Refused x) q = cc
-
 extent-value : (key value : List ℕ) (blocks : ℕ) (mode : Validation) (w : ℕ) → validateExtent key value blocks mode ≡ Number.Value w → w ≡ extentCount value
 unfolding validateExtent
-extent-value key value blocks mode w p = own-value (extentDemands key value blocks mode) (extentCount value) w p
+extent-value key value blocks mode w p = number-exactly (extentDemands key value blocks mode) (extentCount value) w .0 p .1
 
 module _ (key value : List ℕ) (blocks : ℕ) (mode : Validation) (k r : Number) (n : ℕ) (p : k ≡ validateCatalogKey key mode) (q : k ≡ Number.Value n) (kind : ℕ) (e : kind ≡ keyKind key) where
   first-passed : (x : Number) → x ≡ outcome (passing (catalogRecord key value blocks mode) ∷ []) Number.Refused (Number.Value (catalogBlocks key value)) → x ≡ catalogLeaf key value blocks mode
@@ -119,20 +112,20 @@ module _ (key value : List ℕ) (blocks : ℕ) (mode : Validation) (k r : Number
   leaf-other c t h u = first-passed r (h ∙ ap countsNone u ∙ rw (← e, ne-eqb kind 3 t) (none-again (uncountedRecord key value blocks mode)))
 
 -- ---- leaf records, by the tree's kind
-module _ (kind : TreeKind) (key value : List ℕ) (blocks page : ℕ) (mode : Validation) (r : Number) where
-  pub in-catalog : kind ≡ TreeKind.Catalog → r ≡ catalogLeaf key value blocks mode → r ≡ validateLeafRecord kind key value blocks page mode
+module _ (kind : TreeKind) (key value : List ℕ) (blocks pageGeneration : ℕ) (mode : Validation) (r : Number) where
+  pub in-catalog : kind ≡ TreeKind.Catalog → r ≡ catalogLeaf key value blocks mode → r ≡ validateLeafRecord kind key value blocks pageGeneration mode
   unfolding validateLeafRecord catalogLeaf
   in-catalog k p = p ∙ rw k
 
-  pub in-allocation : (c : Check) → kind ≡ TreeKind.Allocation → r ≡ countsNone c → c ≡ validateAllocationGroup key value blocks mode → r ≡ validateLeafRecord kind key value blocks page mode
+  pub in-allocation : (c : Check) → kind ≡ TreeKind.Allocation → r ≡ countsNone c → c ≡ validateAllocationGroup key value blocks mode → r ≡ validateLeafRecord kind key value blocks pageGeneration mode
   unfolding validateLeafRecord
   in-allocation c k p q = p ∙ none-again c ∙ rw (q, k)
 
-  pub in-cleanup : (c : Check) → kind ≡ TreeKind.Cleanup → r ≡ countsNone c → c ≡ validateCleanupKeyValue key value blocks page mode → r ≡ validateLeafRecord kind key value blocks page mode
+  pub in-cleanup : (c : Check) → kind ≡ TreeKind.Cleanup → r ≡ countsNone c → c ≡ validateCleanupKeyValue key value blocks pageGeneration mode → r ≡ validateLeafRecord kind key value blocks pageGeneration mode
   unfolding validateLeafRecord
   in-cleanup c k p q = p ∙ none-again c ∙ rw (q, k)
 
-  pub in-workspace : (c : Check) → kind ≡ TreeKind.Workspace → r ≡ countsNone c → c ≡ validateWorkspaceRun key value blocks mode → r ≡ validateLeafRecord kind key value blocks page mode
+  pub in-workspace : (c : Check) → kind ≡ TreeKind.Workspace → r ≡ countsNone c → c ≡ validateWorkspaceRun key value blocks mode → r ≡ validateLeafRecord kind key value blocks pageGeneration mode
   unfolding validateLeafRecord
   in-workspace c k p q = p ∙ none-again c ∙ rw (q, k)
 
@@ -146,8 +139,8 @@ pub run-ends : (first count blocks : ℕ) (mode : Validation) (fit there : Bool)
 run-ends first count blocks mode fit there n a b c d = search chain depth 12
 
 -- a detached tree's groups of demands are its demands, one after the other
-pub detached-grouped : (key value : List ℕ) (blocks page : ℕ) (mode : Validation) {x : Check} → x ≡ demands (detachedTreeGroups key value blocks page mode) → x ≡ validateDetachedTree key value blocks page mode
+pub detached-grouped : (key value : List ℕ) (blocks pageGeneration : ℕ) (mode : Validation) {x : Check} → x ≡ demands (detachedTreeGroups key value blocks pageGeneration mode) → x ≡ validateDetachedTree key value blocks pageGeneration mode
 unfolding validateDetachedTree detachedOwners
-detached-grouped key value blocks page mode e =
+detached-grouped key value blocks pageGeneration mode e =
     e ∙ front (_ otherwise violationOf mode reason.invalidDetachedTreeJob) _ _
-    (flat (detachedOwnerDemands key value mode) (isKindRange value otherwise violationOf mode reason.invalidDetachedTreeKindRange ∷ notNewerDemands (refAt value 16) blocks page mode))
+    (flat (detachedOwnerDemands key value mode) (isKindRange value otherwise violationOf mode reason.invalidDetachedTreeKindRange ∷ notNewerDemands (refAt value 16) blocks pageGeneration mode))

@@ -13,6 +13,7 @@ use Rattle.error.specs.Demand.{isPassed, outcome, demands}
 use Rattle.volume.specs.declared.TreeRef.{TreeRef}
 use Rattle.volume.specs.declared.TreeKind.{TreeKind}
 use Rattle.error.specs.Answer.{numberCheck, numberOf}
+use Rattle.error.proofs.Chain.{number-of}
 use Rattle.catalog.proofs.Fields.{owner-at, nonreserved-at}
 use Rattle.record.specs.declared.Child.{Child}
 use Rattle.record.specs.Allocation.{validateGroupIndex, reservedTaken}
@@ -21,9 +22,6 @@ use Rattle.record.specs.Workspace.{runEndDemands}
 use Rattle.record.specs.Internal.{retirementKey, childDemands}
 
 -- ---- a check that gives a number
-
-pub counted : {r : Number} {n : ℕ} (c : Number) → r ≡ Number.Value n → r ≡ c → isPassed (numberCheck c) ≡ true
-counted c p e = rw (sym e ∙ p)
 
 pub uncounted : {r : Number} {x : Error} (c : Number) → r ≡ Number.Refused x → r ≡ c → isPassed (numberCheck c) ≡ false
 uncounted c p e = rw (sym e ∙ p)
@@ -42,22 +40,22 @@ index-at group blocks a b mode p e = rw e at p
 pub reserved-at : {r : Bool} {x : ℕ} (value : List ℕ) (group blocks : ℕ) → r ≡ reservedTaken value x blocks → x ≡ group → r ≡ reservedTaken value group blocks
 reserved-at value group blocks p e = rw e at p
 
-pub retirement-at : {r : Check} {x y z w : ℕ} (generation first count reserved blocks page : ℕ) (mode : Validation) → r ≡ demands (retirementRangeDemands x y z w blocks page mode) → x ≡ generation → y ≡ first → z ≡ count → w ≡ reserved → r ≡ demands (retirementRangeDemands generation first count reserved blocks page mode)
-retirement-at generation first count reserved blocks page mode p e f g h = rw (e, f, g, h) at p
+pub retirement-at : {r : Check} {x y z w : ℕ} (generation first count reserved blocks pageGeneration : ℕ) (mode : Validation) → r ≡ demands (retirementRangeDemands x y z w blocks pageGeneration mode) → x ≡ generation → y ≡ first → z ≡ count → w ≡ reserved → r ≡ demands (retirementRangeDemands generation first count reserved blocks pageGeneration mode)
+retirement-at generation first count reserved blocks pageGeneration mode p e f g h = rw (e, f, g, h) at p
 
-pub newer-at : {r : Check} {x : TreeRef} (reference : TreeRef) (blocks page : ℕ) (mode : Validation) → r ≡ demands (notNewerDemands x blocks page mode) → x ≡ reference → r ≡ demands (notNewerDemands reference blocks page mode)
-newer-at reference blocks page mode p e = rw e at p
+pub newer-at : {r : Check} {x : TreeRef} (reference : TreeRef) (blocks pageGeneration : ℕ) (mode : Validation) → r ≡ demands (notNewerDemands x blocks pageGeneration mode) → x ≡ reference → r ≡ demands (notNewerDemands reference blocks pageGeneration mode)
+newer-at reference blocks pageGeneration mode p e = rw e at p
 
 pub run-at : {r : Check} {x y : ℕ} (first count blocks : ℕ) (mode : Validation) → r ≡ demands (runEndDemands x y blocks mode) → x ≡ first → y ≡ count → r ≡ demands (runEndDemands first count blocks mode)
 run-at first count blocks mode p e f = rw (e, f) at p
 
-pub retirement-key-at : {r : Check} {x y : ℕ} (generation first blocks page : ℕ) (mode : Validation) → r ≡ retirementKey x y blocks page mode → x ≡ generation → y ≡ first → r ≡ retirementKey generation first blocks page mode
-retirement-key-at generation first blocks page mode p e f = rw (e, f) at p
+pub retirement-key-at : {r : Check} {x y : ℕ} (generation first blocks pageGeneration : ℕ) (mode : Validation) → r ≡ retirementKey x y blocks pageGeneration mode → x ≡ generation → y ≡ first → r ≡ retirementKey generation first blocks pageGeneration mode
+retirement-key-at generation first blocks pageGeneration mode p e f = rw (e, f) at p
 
-pub child-at : {r : Child} {x : TreeRef} (reference : TreeRef) (kind : TreeKind) (blocks page : ℕ) (mode : Validation) → r ≡ outcome (childDemands x kind blocks page mode) Child.Refused (Child.Reference x) → x ≡ reference → r ≡ outcome (childDemands reference kind blocks page mode) Child.Refused (Child.Reference reference)
-child-at reference kind blocks page mode p e = rw e at p
+pub child-at : {r : Child} {x : TreeRef} (reference : TreeRef) (kind : TreeKind) (blocks pageGeneration : ℕ) (mode : Validation) → r ≡ outcome (childDemands x kind blocks pageGeneration mode) Child.Refused (Child.Reference x) → x ≡ reference → r ≡ outcome (childDemands reference kind blocks pageGeneration mode) Child.Refused (Child.Reference reference)
+child-at reference kind blocks pageGeneration mode p e = rw e at p
 
 pub child-refused-same : (y e : Error) → y ≡ e → Child.Refused y ≡ Child.Refused e
 child-refused-same y e p = ap Child.Refused p
 
-pub ruleset fields = (owner-at, nonreserved-at, counted, uncounted, inside, outside, index-at, reserved-at, retirement-at, newer-at, run-at, retirement-key-at, child-at, child-refused-same)
+pub ruleset fields = (owner-at, nonreserved-at, number-of, uncounted, inside, outside, index-at, reserved-at, retirement-at, newer-at, run-at, retirement-key-at, child-at, child-refused-same)

@@ -45,31 +45,28 @@ full-taken value block left i e h =
 -- ---- the walk
 
 -- each block from start up to but not including the present one is taken
-pub record Walked (value : List ℕ) (start block : ℕ) : Type 0 where
+pub record TakenTo (value : List ℕ) (start block : ℕ) : Type 0 where
   pub from : start ≤ block
   pub taken : (i : ℕ) → start + i < block → blockTaken value (start + i) ≡ true
 
-pub walk-starts : (value : List ℕ) (start : ℕ) → Walked value start start
+pub walk-starts : (value : List ℕ) (start : ℕ) → TakenTo value start start
 walk-starts value start = record { from = omega arith; taken = λ i h. absurd (omega arith) }
 
-module _ (value : List ℕ) (start end block : ℕ) (w : Walked value start block) where
-  pub walk-byte : (r : Bool) → r ≡ true → r ≡ fullByte value block (end - block) → Walked value start (block + 8)
-  walk-byte r p e = record { from = omega (arith, w .from); taken = λ i h. go i h (decLt (start + i) block) }
+module _ (value : List ℕ) (start end block : ℕ) (w : TakenTo value start block) where
+  further : (n : ℕ) → ((i : ℕ) → i < n → blockTaken value (block + i) ≡ true) → TakenTo value start (block + n)
+  further n h = record { from = omega (arith, w .from); taken = λ i l. go i l (decLt (start + i) block) }
     where
-      go : (i : ℕ) → start + i < block + 8 → Dec (start + i < block) → blockTaken value (start + i) ≡ true
-      go i h (yes l) = w .taken i l
-      go i h (no l) =
-          let z : block + (start + i - block) ≡ start + i = omega (arith, l) in
-          ap (blockTaken value) (sym z) ∙ full-taken value block (end - block) (start + i - block) (sym e ∙ p) (omega (arith, l))
+      go : (i : ℕ) → start + i < block + n → Dec (start + i < block) → blockTaken value (start + i) ≡ true
+      go i l (yes p) = w .taken i p
+      go i l (no p) =
+          let z : block + (start + i - block) ≡ start + i = omega (arith, p) in
+          ap (blockTaken value) (sym z) ∙ h (start + i - block) (omega (arith, p))
 
-  pub walk-bit : (r : Bool) → not r ≡ false → r ≡ blockTaken value block → Walked value start (block + 1)
-  walk-bit r p e = record { from = omega (arith, w .from); taken = λ i h. go i h (decLt (start + i) block) }
-    where
-      go : (i : ℕ) → start + i < block + 1 → Dec (start + i < block) → blockTaken value (start + i) ≡ true
-      go i h (yes l) = w .taken i l
-      go i h (no l) =
-          let z : start + i ≡ block = omega (arith, l) in
-          ap (blockTaken value) z ∙ sym e ∙ not-false r p
+  pub walk-byte : (r : Bool) → r ≡ true → r ≡ fullByte value block (end - block) → TakenTo value start (block + 8)
+  walk-byte r p e = further 8 (λ i h. full-taken value block (end - block) i (sym e ∙ p) h)
+
+  pub walk-bit : (r : Bool) → not r ≡ false → r ≡ blockTaken value block → TakenTo value start (block + 1)
+  walk-bit r p e = further 1 (λ i h. let z : block + i ≡ block = omega arith in ap (blockTaken value) z ∙ sym e ∙ not-false r p)
 
   pub walk-ends : end ≤ block → true ≡ takenBetween value start end
   unfolding takenBetween

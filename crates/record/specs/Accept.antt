@@ -18,6 +18,7 @@ use Rattle.record.specs.Workspace.{workspaceKeyDemands, validateWorkspac
 use Rattle.record.specs.Internal.{childRef, internalDemands, validateInternalRecord}
 use Rattle.record.specs.Leaf.{leafDemands, leafBlocks, validateLeafRecord, recordSizeDemands, leafRecordBlocks}
 
+-- section 5: records of every tree, leaf and internal
 pub record RecordsExactly : Type 0 where
   pub allocation-group : (key value : List ℕ) (blocks : ℕ) (mode : Validation) → (validateAllocationGroup key value blocks mode ≡ Passed) ↔ AllHold (allocationGroupDemands key value blocks mode)
   -- a range of blocks is taken exactly when each block in it is

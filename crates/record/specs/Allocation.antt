@@ -22,6 +22,7 @@ groupIndexDemands group blocks uncounted outside mode =
     ∷ ltb group (numberOf (allocationGroupCount blocks)) otherwise violationOf mode outside
     ∷ []
 
+-- section 5: the first that fails answers
 unfoldable pub validateGroupIndex : ℕ → ℕ → ℕ → ℕ → Validation → Check
 validateGroupIndex group blocks uncounted outside mode = demands (groupIndexDemands group blocks uncounted outside mode)
 
@@ -37,12 +38,15 @@ takenBetween value start end = every (λ i. blockTaken value (start + i)) (end -
 abbrev pub allTaken : List ℕ → GroupBlocks → Bool
 allTaken value ranges = takenBetween value (ranges .«low_start») (ranges .«low_end») && takenBetween value (ranges .«high_start») (ranges .«high_end»)
 
+-- section 5: the blocks of a group that can never be allocated are taken
 unfoldable pub reservedTaken : List ℕ → ℕ → ℕ → Bool
 reservedTaken value group blocks = allTaken value (reservedGroupBlocks group blocks)
 
+-- section 5: the key is the group's number
 abbrev pub groupNumber : List ℕ → ℕ
 groupNumber key = bigAt key 0
 
+-- section 5: what is asked of a group, in order
 abbrev pub allocationGroupDemands : List ℕ → List ℕ → ℕ → Validation → List Demand
 allocationGroupDemands key value blocks mode =
     (eqb (length key) 8 && eqb (length value) 2048) otherwise violationOf mode reason.invalidAllocationGroup
@@ -50,5 +54,6 @@ allocationGroupDemands key value blocks mode =
     ∷ reservedTaken value (groupNumber key) blocks otherwise violationOf mode reason.reservedAllocationBitIsFree
     ∷ []
 
+-- section 5: the first that fails answers
 unfoldable pub validateAllocationGroup : List ℕ → List ℕ → ℕ → Validation → Check
 validateAllocationGroup key value blocks mode = demands (allocationGroupDemands key value blocks mode)

@@ -16,6 +16,7 @@ use Rattle.record.specs.Cleanup.{validateCleanupKeyValue}
 abbrev pub extentKey : List ℕ
 extentKey = replicate 7 0 ++ (1 ∷ 3 ∷ replicate 8 0)
 
+-- an extent at block 512, of so many blocks
 abbrev pub extentAt512 : ℕ → List ℕ
 extentAt512 count = 0 ∷ 2 ∷ (replicate 6 0 ++ (count ∷ replicate 7 0))
 
@@ -23,6 +24,7 @@ extentAt512 count = 0 ∷ 2 ∷ (replicate 6 0 ++ (count ∷ replicate 7 0))
 abbrev pub orphanKey : ℕ → List ℕ
 orphanKey object = 3 ∷ (replicate 7 0 ++ (object ∷ []))
 
+-- section 5: extents, times and orphan markers at their edges
 unfoldable pub cases : List Bool
 cases =
     -- B = 1,025: extent at 512 of count 1 passes, count 2 doesn't
@@ -42,5 +44,6 @@ cases =
     ∷ isPassed (validateCleanupKeyValue (orphanKey 1) [] 1025 1 Disk)
     ∷ []
 
+-- each of them is true
 abbrev pub CasesHold : Type 0
 CasesHold = allTrue cases ≡ true

@@ -22,9 +22,11 @@ use Rattle.catalog.specs.Keys.{validateOwnerId}
 abbrev pub cleanupKind : List ℕ → ℕ
 cleanupKind key = byteAt key 0
 
+-- section 5: the number from byte 1 on, a generation, a job or an object
 abbrev pub cleanupNumber : List ℕ → ℕ
 cleanupNumber key = bigAt key 1
 
+-- section 5: the number from byte 9 on, a retirement's first block
 abbrev pub cleanupBlock : List ℕ → ℕ
 cleanupBlock key = bigAt key 9
 
@@ -33,17 +35,20 @@ unfoldable pub isRetirementRange : ℕ → ℕ → ℕ → ℕ → ℕ → ℕ �
 isRetirementRange generation first count reserved blocks pageGeneration =
     not (eqb generation 0) && leb generation pageGeneration && not (eqb count 0) && eqb reserved 0 && isNonreservedRun first count blocks
 
+-- section 5: what is asked of a retirement's numbers, in order
 abbrev pub retirementRangeDemands : ℕ → ℕ → ℕ → ℕ → ℕ → ℕ → Validation → List Demand
 retirementRangeDemands generation first count reserved blocks pageGeneration mode =
     sumFits first count otherwise violationOf mode reason.retirementRange
     ∷ isRetirementRange generation first count reserved blocks pageGeneration otherwise violationOf mode reason.invalidRetirementRange
     ∷ []
 
+-- section 5: what is asked of a retirement, in order
 abbrev pub retirementDemands : List ℕ → List ℕ → ℕ → ℕ → Validation → List Demand
 retirementDemands key value blocks pageGeneration mode =
     (eqb (length key) 17 && eqb (length value) 8) otherwise violationOf mode reason.invalidRetirementRecord
     ∷ retirementRangeDemands (cleanupNumber key) (cleanupBlock key) (u32At value 0) (u32At value 4) blocks pageGeneration mode
 
+-- section 5: the first that fails answers
 unfoldable pub validateRetirement : List ℕ → List ℕ → ℕ → ℕ → Validation → Check
 validateRetirement key value blocks pageGeneration mode = demands (retirementDemands key value blocks pageGeneration mode)
 
@@ -53,12 +58,14 @@ isKindRange value =
     leb 1 (byteAt value 8) && leb (byteAt value 8) 4 && (leb 1 (byteAt value 9) && leb (byteAt value 9) 4)
     && leb (byteAt value 8) (byteAt value 9) && allZero (part value 10 6)
 
+-- section 5: a detached tree's job and owner
 abbrev pub detachedOwnerDemands : List ℕ → List ℕ → Validation → List Demand
 detachedOwnerDemands key value mode =
     passing (validateOwnerId (cleanupNumber key) mode)
     ∷ passing (validateOwnerId (u64At value 0) mode)
     ∷ []
 
+-- section 5: its reference, which is not newer than the page
 abbrev pub notNewerDemands : TreeRef → ℕ → ℕ → Validation → List Demand
 notNewerDemands reference blocks pageGeneration mode =
     passing (validateTreeRef reference blocks mode)
@@ -72,6 +79,7 @@ detachedTreeDemands key value blocks pageGeneration mode =
     ∷ detachedOwnerDemands key value mode
     ++ (isKindRange value otherwise violationOf mode reason.invalidDetachedTreeKindRange ∷ notNewerDemands (refAt value 16) blocks pageGeneration mode)
 
+-- section 5: the first that fails answers
 unfoldable pub validateDetachedTree : List ℕ → List ℕ → ℕ → ℕ → Validation → Check
 validateDetachedTree key value blocks pageGeneration mode = demands (detachedTreeDemands key value blocks pageGeneration mode)
 
@@ -82,6 +90,7 @@ orphanMarkerDemands key value mode =
     ∷ passing (validateOwnerId (cleanupNumber key) mode)
     ∷ []
 
+-- section 5: the first that fails answers
 unfoldable pub validateOrphanMarker : List ℕ → List ℕ → Validation → Check
 validateOrphanMarker key value mode = demands (orphanMarkerDemands key value mode)
 
@@ -93,14 +102,17 @@ cleanupRecord key value blocks pageGeneration mode =
     (cond (eqb (cleanupKind key) 3) (validateOrphanMarker key value mode)
     (Refused (violationOf mode reason.unknownCleanupRecordKind))))
 
+-- section 5: a key has 9 or 17 bytes
 abbrev pub isCleanupLength : ℕ → Bool
 isCleanupLength n = eqb n 9 || eqb n 17
 
+-- section 5: what is asked of a cleanup record, in order
 abbrev pub cleanupDemands : List ℕ → List ℕ → ℕ → ℕ → Validation → List Demand
 cleanupDemands key value blocks pageGeneration mode =
     isCleanupLength (length key) otherwise violationOf mode reason.invalidCleanupKeyLength
     ∷ passing (cleanupRecord key value blocks pageGeneration mode)
     ∷ []
 
+-- section 5: the first that fails answers
 unfoldable pub validateCleanupKeyValue : List ℕ → List ℕ → ℕ → ℕ → Validation → Check
 validateCleanupKeyValue key value blocks pageGeneration mode = demands (cleanupDemands key value blocks pageGeneration mode)

@@ -1,6 +1,6 @@
 -- What private functions promise. No public promise rests on these.
 use Prim.Native.Nat.{ℕ, _/_, _%_}
-use mathlib.Core.Bool.{Bool, _&&_}
+use mathlib.Core.Bool.{Bool, _&&_, _||_}
 use mathlib.Core.List.{List, _∷_}
 use lib.Dec.{leb, eqb}
 use lib.ListN.{length}
@@ -25,6 +25,7 @@ fullByte value block left = eqb (block % 8) 0 && leb 8 left && eqb (byteAt value
 unfoldable pub detachedOwners : List ℕ → List ℕ → Validation → Check
 detachedOwners key value mode = demands (detachedOwnerDemands key value mode)
 
+-- all of a detached tree's demands, by groups
 abbrev pub detachedTreeGroups : List ℕ → List ℕ → ℕ → ℕ → Validation → List Demand
 detachedTreeGroups key value blocks pageGeneration mode =
     (eqb (length key) 9 && eqb (length value) 32) otherwise violationOf mode reason.invalidDetachedTreeJob
@@ -32,10 +33,19 @@ detachedTreeGroups key value blocks pageGeneration mode =
     ∷ isKindRange value otherwise violationOf mode reason.invalidDetachedTreeKindRange
     ∷ notNewerDemands (refAt value 16) blocks pageGeneration mode
 
+-- the kind and the length of a key in an internal page of the cleanup tree: a retirement's, and one that holds a job or an object
+abbrev pub isRetirementKey : ℕ → ℕ → Bool
+isRetirementKey kind length = eqb kind 1 && eqb length 17
+
+-- a key that holds a job or an object
+abbrev pub isOwnerKey : ℕ → ℕ → Bool
+isOwnerKey kind length = (eqb kind 2 || eqb kind 3) && eqb length 9
+
 -- a leaf record of the catalog, and a record that counts no blocks
 unfoldable pub catalogLeaf : List ℕ → List ℕ → ℕ → Validation → Number
 catalogLeaf key value blocks mode = outcome (catalogLeafDemands key value blocks mode) Number.Refused (Number.Value (catalogBlocks key value))
 
+-- a check's answer, as that of a record that counts no blocks
 abbrev pub countsNone : Check → Number
 countsNone Passed = Number.Value 0
 countsNone (Refused e) = Number.Refused e

@@ -7,6 +7,7 @@ use lib.ListN.{length}
 use Rattle.error.specs.declared.Validation.{Validation}
 use Rattle.error.specs.declared.Check.{Check}
 use Rattle.error.specs.declared.Check.the-variants.{Refused}
+use Rattle.error.specs.declared.Number.{Number}
 use Rattle.error.specs.Answer.{violationOf, numberCheck}
 use Rattle.error.specs.Demand.{Demand, _otherwise_, passing, outcome, demands}
 use Rattle.error.specs.Reason as reason
@@ -20,12 +21,14 @@ use Rattle.record.specs.Allocation.{groupNumber, validateGroupIndex}
 use Rattle.record.specs.Cleanup.{cleanupKind, cleanupNumber, cleanupBlock}
 use Rattle.record.specs.Workspace.{validateWorkspaceKey}
 
+-- section 5: what is asked of an allocation tree's key, in order
 abbrev pub allocationKeyDemands : List ℕ → ℕ → Validation → List Demand
 allocationKeyDemands key blocks mode =
     eqb (length key) 8 otherwise violationOf mode reason.invalidAllocationInternalKey
     ∷ passing (validateGroupIndex (groupNumber key) blocks reason.allocationInternalKey reason.allocationInternalKeyRange mode)
     ∷ []
 
+-- section 5: the first that fails answers
 unfoldable pub allocationInternalKey : List ℕ → ℕ → Validation → Check
 allocationInternalKey key blocks mode = demands (allocationKeyDemands key blocks mode)
 
@@ -36,6 +39,7 @@ retirementKeyDemands generation first blocks pageGeneration mode =
     ∷ isNonreservedBlock first blocks otherwise violationOf mode reason.invalidRetirementBlock
     ∷ []
 
+-- section 5: the first that fails answers
 unfoldable pub retirementKey : ℕ → ℕ → ℕ → ℕ → Validation → Check
 retirementKey generation first blocks pageGeneration mode = demands (retirementKeyDemands generation first blocks pageGeneration mode)
 
@@ -53,15 +57,18 @@ internalKey TreeKind.Allocation key blocks pageGeneration mode = allocationInter
 internalKey TreeKind.Cleanup key blocks pageGeneration mode = cleanupInternalKey key blocks pageGeneration mode
 internalKey TreeKind.Workspace key blocks pageGeneration mode = validateWorkspaceKey key blocks mode
 
+-- section 5: the value is the child's reference
 abbrev pub childRef : List ℕ → TreeRef
 childRef value = refAt value 0
 
+-- section 5: what is asked of the child, in order
 abbrev pub childDemands : TreeRef → TreeKind → ℕ → ℕ → Validation → List Demand
 childDemands reference kind blocks pageGeneration mode =
     passing (validatePageRef reference kind blocks mode)
     ∷ leb (reference .generation) pageGeneration otherwise violationOf mode reason.childGenerationIsNewerThanParent
     ∷ []
 
+-- section 5: what is asked of an internal record, in order
 abbrev pub internalDemands : TreeKind → List ℕ → List ℕ → ℕ → ℕ → Validation → List Demand
 internalDemands kind key value blocks pageGeneration mode =
     passing (internalKey kind key blocks pageGeneration mode)
@@ -71,3 +78,8 @@ internalDemands kind key value blocks pageGeneration mode =
 -- the reference
 unfoldable pub validateInternalRecord : TreeKind → List ℕ → List ℕ → ℕ → ℕ → Validation → Child
 validateInternalRecord kind key value blocks pageGeneration mode = outcome (internalDemands kind key value blocks pageGeneration mode) Child.Refused (Child.Reference (childRef value))
+
+-- the answer, as that of a check that gives a number: the block of the page that it names
+abbrev pub childBlock : Child → Number
+childBlock (Child.Reference reference) = Number.Value (reference .block)
+childBlock (Child.Refused e) = Number.Refused e

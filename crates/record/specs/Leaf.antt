@@ -35,6 +35,7 @@ uncountedRecord key value blocks mode =
 abbrev pub catalogRecord : List ℕ → List ℕ → ℕ → Validation → Check
 catalogRecord key value blocks mode = cond (eqb (keyKind key) 3) (numberCheck (validateExtent key value blocks mode)) (uncountedRecord key value blocks mode)
 
+-- section 5: what is asked of a catalog's record, in order
 abbrev pub catalogLeafDemands : List ℕ → List ℕ → ℕ → Validation → List Demand
 catalogLeafDemands key value blocks mode =
     passing (numberCheck (validateCatalogKey key mode))
@@ -52,12 +53,14 @@ leafDemands TreeKind.Allocation key value blocks pageGeneration mode = passing (
 leafDemands TreeKind.Cleanup key value blocks pageGeneration mode = passing (validateCleanupKeyValue key value blocks pageGeneration mode) ∷ []
 leafDemands TreeKind.Workspace key value blocks pageGeneration mode = passing (validateWorkspaceRun key value blocks mode) ∷ []
 
+-- section 5: the data blocks that a record counts; only extents count any
 abbrev pub leafBlocks : TreeKind → List ℕ → List ℕ → ℕ
 leafBlocks TreeKind.Catalog key value = catalogBlocks key value
 leafBlocks TreeKind.Allocation key value = 0
 leafBlocks TreeKind.Cleanup key value = 0
 leafBlocks TreeKind.Workspace key value = 0
 
+-- section 5: its data blocks, or the first that fails
 unfoldable pub validateLeafRecord : TreeKind → List ℕ → List ℕ → ℕ → ℕ → Validation → Number
 validateLeafRecord kind key value blocks pageGeneration mode =
     outcome (leafDemands kind key value blocks pageGeneration mode) Number.Refused (Number.Value (leafBlocks kind key value))
@@ -69,5 +72,6 @@ recordSizeDemands key value =
     ∷ leb (4 + length key + length value) 3072 otherwise InvalidInput reason.recordIsTooLarge
     ∷ []
 
+-- section 5: the same, after the record's size
 unfoldable pub leafRecordBlocks : TreeKind → List ℕ → List ℕ → ℕ → ℕ → Number
 leafRecordBlocks kind key value blocks generation = outcome (recordSizeDemands key value) Number.Refused (validateLeafRecord kind key value blocks generation Input)

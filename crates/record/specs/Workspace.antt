@@ -13,18 +13,22 @@ use Rattle.octets.specs.Number.{u32At, bigAt}
 use Rattle.volume.specs.Blocks.{isNonreservedBlock}
 use Rattle.volume.specs.Numbers.{sumFits}
 
+-- section 5: the key is the run's first block
 abbrev pub runFirst : List ℕ → ℕ
 runFirst key = bigAt key 0
 
+-- section 5: the value is its count of blocks
 abbrev pub runCount : List ℕ → ℕ
 runCount value = u32At value 0
 
+-- section 5: what is asked of the key, in order
 abbrev pub workspaceKeyDemands : List ℕ → ℕ → Validation → List Demand
 workspaceKeyDemands key blocks mode =
     eqb (length key) 8 otherwise violationOf mode reason.workspaceKeyLength
     ∷ isNonreservedBlock (runFirst key) blocks otherwise violationOf mode reason.invalidWorkspaceBlock
     ∷ []
 
+-- section 5: the first that fails answers
 unfoldable pub validateWorkspaceKey : List ℕ → ℕ → Validation → Check
 validateWorkspaceKey key blocks mode = demands (workspaceKeyDemands key blocks mode)
 
@@ -35,11 +39,13 @@ runEndDemands first count blocks mode =
     ∷ isNonreservedBlock (first + (count - 1)) blocks otherwise violationOf mode reason.workspaceRunLeavesTheVolume
     ∷ []
 
+-- section 5: what is asked of a run, in order
 abbrev pub workspaceRunDemands : List ℕ → List ℕ → ℕ → Validation → List Demand
 workspaceRunDemands key value blocks mode =
     passing (validateWorkspaceKey key blocks mode)
     ∷ eqb (length value) 4 otherwise violationOf mode reason.workspaceRunLength
     ∷ runEndDemands (runFirst key) (runCount value) blocks mode
 
+-- section 5: the first that fails answers
 unfoldable pub validateWorkspaceRun : List ℕ → List ℕ → ℕ → Validation → Check
 validateWorkspaceRun key value blocks mode = demands (workspaceRunDemands key value blocks mode)

@@ -7,7 +7,7 @@ ghost use Rattle.error.specs.Answer.{numberCheck};
 ghost use Rattle.catalog.specs.Keys.{validateCatalogKey};
 ghost use Rattle.record.specs.declared.Child.{Child as ChildOf};
 ghost use Rattle.record.specs.Allocation.{validateGroupIndex, blockTaken, takenBetween, allTaken, reservedTaken, validateAllocationGroup};
-ghost use Rattle.record.specs.Inside.{fullByte, detachedOwners, countsNone, catalogLeaf};
+ghost use Rattle.record.specs.Inside.{fullByte, detachedOwners, isRetirementKey, isOwnerKey, countsNone, catalogLeaf};
 ghost use Rattle.record.specs.Cleanup.{isRetirementRange, retirementRangeDemands, validateRetirement, isKindRange, notNewerDemands, validateDetachedTree, validateOrphanMarker, cleanupRecord, isCleanupLength, validateCleanupKeyValue};
 ghost use Rattle.record.specs.Workspace.{validateWorkspaceKey, runEndDemands, validateWorkspaceRun};
 ghost use Rattle.record.specs.Internal.{allocationInternalKey, retirementKey, cleanupInternalKey, internalKey, childDemands, validateInternalRecord};
@@ -80,12 +80,12 @@ fn taken_between(value: &[u8], start: u64, end: u64) -> bool
     while block < end {
         if full_byte(value, block, end - block) {
             block += 8;
-        } else {
-            if !block_taken(value, block) {
-                return false;
-            }
-            block += 1;
+            continue;
         }
+        if !block_taken(value, block) {
+            return false;
+        }
+        block += 1;
     }
     true
 }
@@ -139,12 +139,12 @@ fn is_retirement_range(
     count: u64,
     reserved: u32,
     blocks: u64,
-    page: u64,
+    page_generation: u64,
 ) -> bool
-    ensures { λ r. ⌜ r ≡ isRetirementRange generation first count reserved blocks page ⌝ }
+    ensures { λ r. ⌜ r ≡ isRetirementRange generation first count reserved blocks «page_generation» ⌝ }
 {
     (generation != 0)
-        & (generation <= page)
+        & (generation <= page_generation)
         & (count != 0)
         & (reserved == 0)
         & volume::is_nonreserved_run(first, count, blocks)
@@ -156,23 +156,29 @@ fn retirement_range(
     count: u64,
     reserved: u32,
     blocks: u64,
-    page: u64,
+    page_generation: u64,
     mode: Validation,
 ) -> Check
-    ensures { λ r. ⌜ r ≡ demands (retirementRangeDemands generation first count reserved blocks page mode) ⌝ }
+    ensures { λ r. ⌜ r ≡ demands (retirementRangeDemands generation first count reserved blocks «page_generation» mode) ⌝ }
 {
     if !volume::sum_fits(first, count) {
         return Check::Refused(error::violation(mode, reason::RETIREMENT_RANGE));
     }
-    if !is_retirement_range(generation, first, count, reserved, blocks, page) {
+    if !is_retirement_range(generation, first, count, reserved, blocks, page_generation) {
         return Check::Refused(error::violation(mode, reason::INVALID_RETIREMENT_RANGE));
     }
     Check::Passed
 }
 
 // Check a retired run of blocks.
-fn validate_retirement(key: &[u8], value: &[u8], blocks: u64, page: u64, mode: Validation) -> Check
-    ensures { λ r. ⌜ r ≡ validateRetirement (now (key .entry)) (now (value .entry)) blocks page mode ⌝ }
+fn validate_retirement(
+    key: &[u8],
+    value: &[u8],
+    blocks: u64,
+    page_generation: u64,
+    mode: Validation,
+) -> Check
+    ensures { λ r. ⌜ r ≡ validateRetirement (now (key .entry)) (now (value .entry)) blocks «page_generation» mode ⌝ }
 {
     if key.len() != 17 {
         return Check::Refused(error::violation(mode, reason::INVALID_RETIREMENT_RECORD));
@@ -188,7 +194,7 @@ fn validate_retirement(key: &[u8], value: &[u8], blocks: u64, page: u64, mode: V
         count,
         reserved,
         blocks,
-        page,
+        page_generation,
         mode,
     )
 }
@@ -216,14 +222,14 @@ fn detached_owners(key: &[u8], value: &[u8], mode: Validation) -> Check
     catalog::validate_owner_id(octets::u64_at(value, 0), mode)
 }
 
-fn not_newer(reference: TreeRef, blocks: u64, page: u64, mode: Validation) -> Check
-    ensures { λ r. ⌜ r ≡ demands (notNewerDemands reference blocks page mode) ⌝ }
+fn not_newer(reference: TreeRef, blocks: u64, page_generation: u64, mode: Validation) -> Check
+    ensures { λ r. ⌜ r ≡ demands (notNewerDemands reference blocks «page_generation» mode) ⌝ }
 {
     let named = volume::validate_tree_ref(reference, blocks, mode);
     let Check::Passed = named else {
         return named;
     };
-    if page < reference.generation {
+    if page_generation < reference.generation {
         return Check::Refused(error::violation(mode, reason::DETACHED_TREE_REFERENCE_IS_NEWER));
     }
     Check::Passed
@@ -234,10 +240,10 @@ fn validate_detached_tree(
     key: &[u8],
     value: &[u8],
     blocks: u64,
-    page: u64,
+    page_generation: u64,
     mode: Validation,
 ) -> Check
-    ensures { λ r. ⌜ r ≡ validateDetachedTree (now (key .entry)) (now (value .entry)) blocks page mode ⌝ }
+    ensures { λ r. ⌜ r ≡ validateDetachedTree (now (key .entry)) (now (value .entry)) blocks «page_generation» mode ⌝ }
 {
     if key.len() != 9 {
         return Check::Refused(error::violation(mode, reason::INVALID_DETACHED_TREE_JOB));
@@ -252,7 +258,7 @@ fn validate_detached_tree(
     if !is_kind_range(value) {
         return Check::Refused(error::violation(mode, reason::INVALID_DETACHED_TREE_KIND_RANGE));
     }
-    not_newer(volume::ref_at(value, 16), blocks, page, mode)
+    not_newer(volume::ref_at(value, 16), blocks, page_generation, mode)
 }
 
 // Check an orphan marker.
@@ -268,15 +274,21 @@ fn validate_orphan_marker(key: &[u8], value: &[u8], mode: Validation) -> Check
     catalog::validate_owner_id(octets::big_at(key, 1), mode)
 }
 
-fn cleanup_record(key: &[u8], value: &[u8], blocks: u64, page: u64, mode: Validation) -> Check
-    ensures { λ r. ⌜ r ≡ cleanupRecord (now (key .entry)) (now (value .entry)) blocks page mode ⌝ }
+fn cleanup_record(
+    key: &[u8],
+    value: &[u8],
+    blocks: u64,
+    page_generation: u64,
+    mode: Validation,
+) -> Check
+    ensures { λ r. ⌜ r ≡ cleanupRecord (now (key .entry)) (now (value .entry)) blocks «page_generation» mode ⌝ }
 {
     let kind = octets::byte_at(key, 0);
     if kind == 1 {
-        return validate_retirement(key, value, blocks, page, mode);
+        return validate_retirement(key, value, blocks, page_generation, mode);
     }
     if kind == 2 {
-        return validate_detached_tree(key, value, blocks, page, mode);
+        return validate_detached_tree(key, value, blocks, page_generation, mode);
     }
     if kind == 3 {
         return validate_orphan_marker(key, value, mode);
@@ -369,13 +381,19 @@ fn allocation_internal_key(key: &[u8], blocks: u64, mode: Validation) -> Check
     )
 }
 
-fn retirement_key(generation: u64, first: u64, blocks: u64, page: u64, mode: Validation) -> Check
-    ensures { λ r. ⌜ r ≡ retirementKey generation first blocks page mode ⌝ }
+fn retirement_key(
+    generation: u64,
+    first: u64,
+    blocks: u64,
+    page_generation: u64,
+    mode: Validation,
+) -> Check
+    ensures { λ r. ⌜ r ≡ retirementKey generation first blocks «page_generation» mode ⌝ }
 {
     if generation == 0 {
         return Check::Refused(error::violation(mode, reason::INVALID_RETIREMENT_GENERATION));
     }
-    if page < generation {
+    if page_generation < generation {
         return Check::Refused(error::violation(mode, reason::INVALID_RETIREMENT_GENERATION));
     }
     if !volume::is_nonreserved_block(first, blocks) {
@@ -384,20 +402,33 @@ fn retirement_key(generation: u64, first: u64, blocks: u64, page: u64, mode: Val
     Check::Passed
 }
 
-fn cleanup_internal_key(key: &[u8], blocks: u64, page: u64, mode: Validation) -> Check
-    ensures { λ r. ⌜ r ≡ cleanupInternalKey (now (key .entry)) blocks page mode ⌝ }
+fn is_retirement_key(kind: u8, length: usize) -> bool
+    ensures { λ r. ⌜ r ≡ isRetirementKey kind length ⌝ }
+{
+    (kind == 1) & (length == 17)
+}
+
+// A detached tree's key holds its job, an orphan's its object.
+fn is_owner_key(kind: u8, length: usize) -> bool
+    ensures { λ r. ⌜ r ≡ isOwnerKey kind length ⌝ }
+{
+    ((kind == 2) | (kind == 3)) & (length == 9)
+}
+
+fn cleanup_internal_key(key: &[u8], blocks: u64, page_generation: u64, mode: Validation) -> Check
+    ensures { λ r. ⌜ r ≡ cleanupInternalKey (now (key .entry)) blocks «page_generation» mode ⌝ }
 {
     let kind = octets::byte_at(key, 0);
-    if (kind == 1) & (key.len() == 17) {
+    if is_retirement_key(kind, key.len()) {
         return retirement_key(
             octets::big_at(key, 1),
             octets::big_at(key, 9),
             blocks,
-            page,
+            page_generation,
             mode,
         );
     }
-    if ((kind == 2) | (kind == 3)) & (key.len() == 9) {
+    if is_owner_key(kind, key.len()) {
         return catalog::validate_owner_id(octets::big_at(key, 1), mode);
     }
     Check::Refused(error::violation(mode, reason::INVALID_CLEANUP_INTERNAL_KEY))
@@ -413,24 +444,36 @@ fn catalog_internal_key(key: &[u8], mode: Validation) -> Check
     }
 }
 
-fn internal_key(kind: TreeKind, key: &[u8], blocks: u64, page: u64, mode: Validation) -> Check
-    ensures { λ r. ⌜ r ≡ internalKey kind (now (key .entry)) blocks page mode ⌝ }
+fn internal_key(
+    kind: TreeKind,
+    key: &[u8],
+    blocks: u64,
+    page_generation: u64,
+    mode: Validation,
+) -> Check
+    ensures { λ r. ⌜ r ≡ internalKey kind (now (key .entry)) blocks «page_generation» mode ⌝ }
 {
     match kind {
         TreeKind::Catalog => catalog_internal_key(key, mode),
         TreeKind::Allocation => allocation_internal_key(key, blocks, mode),
-        TreeKind::Cleanup => cleanup_internal_key(key, blocks, page, mode),
+        TreeKind::Cleanup => cleanup_internal_key(key, blocks, page_generation, mode),
         TreeKind::Workspace => validate_workspace_key(key, blocks, mode),
     }
 }
 
-fn child_of(reference: TreeRef, kind: TreeKind, blocks: u64, parent: u64, mode: Validation) -> Child
-    ensures { λ r. ⌜ r ≡ outcome (childDemands reference kind blocks parent mode) ChildOf.Refused (ChildOf.Reference reference) ⌝ }
+fn child_of(
+    reference: TreeRef,
+    kind: TreeKind,
+    blocks: u64,
+    page_generation: u64,
+    mode: Validation,
+) -> Child
+    ensures { λ r. ⌜ r ≡ outcome (childDemands reference kind blocks «page_generation» mode) ChildOf.Refused (ChildOf.Reference reference) ⌝ }
 {
     if let Check::Refused(e) = volume::validate_page_ref(reference, kind, blocks, mode) {
         return Child::Refused(e);
     }
-    if parent < reference.generation {
+    if page_generation < reference.generation {
         return Child::Refused(error::violation(
             mode,
             reason::CHILD_GENERATION_IS_NEWER_THAN_PARENT,

@@ -4,8 +4,9 @@ use mathlib.Core.Path.{_≡_, refl, sym, _∙_}
 use mathlib.Core.List.{List, [], _∷_, _++_, append-assoc}
 use native.Mathlib.Omega.{arith}
 use borrow.Author.Tests.{ne-eqb}
-use lib.ListN.{length, set, drop, length-set, drop-of-length-le}
-use lib.Seq.{drop-cons, drop-set-lt, getD-set-same}
+use lib.ListN.{length, set, take, drop, length-set, length-drop, drop-of-length-le}
+use lib.Seq.{take-all, drop-cons, drop-set-lt, getD-set-same}
+use Rattle.octets.specs.Bytes.{Laid}
 use Rattle.report.specs.Text.{leading, decimal}
 
 -- a digit in front of what stands from suc i on
@@ -52,3 +53,7 @@ spell-done {text} {n} {i} {rest} s z = rw (z, none-left i) at (s .left)
 
 pub spell-all : {text : List ℕ} {n i rest : ℕ} → Spelled n text i rest → i ≤ 0 → drop i text ≡ decimal n
 spell-all {text} {n} {i} {rest} s h = let z : i ≡ 0 = omega arith in rw z (rw z at (s .left))
+
+-- the digits go to the end of what is lent
+pub laid-part : (text : List ℕ) (from : ℕ) {out goal last : List ℕ} {at r : ℕ} → Laid out at (take (20 - from) (drop from text)) last r → length text ≡ 20 → drop from text ≡ goal → Laid out at goal last r
+laid-part text from l h e = rw (take-all (20 - from) (drop from text) (omega (arith, length-drop from text)), e) at l

@@ -1,4 +1,3 @@
-pub mod Lay
 pub mod Digits
 pub mod Lines
 pub mod Value

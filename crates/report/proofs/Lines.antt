@@ -5,9 +5,9 @@ use mathlib.Core.List.{List, [], _∷_, _++_, append-nil}
 use native.Mathlib.Omega.{arith}
 use borrow.Author.Tests.{eq-eqb, ne-eqb}
 use lib.ListN.{length}
-use Rattle.report.specs.Text.{Laid}
+use Rattle.octets.specs.Bytes.{Laid}
 use Rattle.report.specs.Line.{newline, answer, labelField, bodyLine}
-use Rattle.report.proofs.Lay.{laid-two, laid-three}
+use Rattle.octets.proofs.Lay.{laid-two, laid-three}
 
 none : (label : List ℕ) → length label ≡ 0 → labelField label ≡ 32 ∷ 45 ∷ []
 unfolding labelField

@@ -6,7 +6,12 @@ use mathlib.Core.List.{List, [], _∷_, _++_}
 use native.Mathlib.Omega.{arith}
 use borrow.Author.Tests.{eqb-true}
 use lib.Dec.{eqb}
-use Rattle.report.specs.Text.{leading, decimal, decimalValue}
+use Rattle.report.specs.Text.{leading, decimal}
+
+-- a number read digit by digit, from the value of what stands in front
+abbrev decimalValue : ℕ → List ℕ → ℕ
+decimalValue front [] = front
+decimalValue front (digit ∷ text) = decimalValue (10 * front + (digit - 48)) text
 
 more : (front : ℕ) (text : List ℕ) (d : ℕ) → decimalValue front (text ++ ((48 + d) ∷ [])) ≡ 10 * decimalValue front text + d
 more front [] d = omega arith

@@ -4,24 +4,9 @@ ghost use mathlib.Core.Path.{_≡_};
 ghost use mathlib.Core.List.{[], _∷_};
 ghost use Prim.Native.Nat.{_+_, _%_, _≤_};
 ghost use lib.ListN.{length, drop};
-ghost use Rattle.report.specs.Text.{Laid, decimal as Text·decimal, field as Text·field};
+ghost use Rattle.octets.specs.Bytes.{Laid};
+ghost use Rattle.report.specs.Text.{decimal as Text·decimal, numberField};
 ghost use Rattle.report.specs.Line.{headLine, answer as Line·answer, labelField, rootFields, pageFields, bodyLine, cutLine, endLine};
-
-pub fn put(out: &mut [u8], at: usize, text: &[u8]) -> usize
-    ensures { λ r. ⌜ Laid (now (out .entry)) at (now (text .entry)) (now (out .exit)) r ⌝ }
-{
-    let mut i = 0;
-    let mut place = at;
-    while i < text.len() {
-        if out.len() <= place {
-            return place;
-        }
-        out[place] = text[i];
-        i += 1;
-        place += 1;
-    }
-    place
-}
 
 pub fn put_byte(out: &mut [u8], at: usize, byte: u8) -> usize
     ensures { λ r. ⌜ Laid (now (out .entry)) at (byte ∷ []) (now (out .exit)) r ⌝ }
@@ -63,12 +48,12 @@ pub fn decimal(out: &mut [u8], at: usize, n: u64) -> usize
 {
     let mut text = [0u8; 20];
     let start = spell(n, &mut text);
-    put(out, at, &text[start..])
+    octets::put(out, at, &text[start..])
 }
 
 // A space and a number.
-pub fn field(out: &mut [u8], at: usize, n: u64) -> usize
-    ensures { λ r. ⌜ Laid (now (out .entry)) at (Text·field n) (now (out .exit)) r ⌝ }
+pub fn number_field(out: &mut [u8], at: usize, n: u64) -> usize
+    ensures { λ r. ⌜ Laid (now (out .entry)) at (numberField n) (now (out .exit)) r ⌝ }
 {
     let behind = put_byte(out, at, b' ');
     decimal(out, behind, n)
@@ -77,15 +62,15 @@ pub fn field(out: &mut [u8], at: usize, n: u64) -> usize
 pub fn head_line(out: &mut [u8], at: usize) -> usize
     ensures { λ r. ⌜ Laid (now (out .entry)) at headLine (now (out .exit)) r ⌝ }
 {
-    put(out, at, b"readback 1\n")
+    octets::put(out, at, b"readback 1\n")
 }
 
 fn answer(out: &mut [u8], at: usize, number: u64, class: u16, reason: u16) -> usize
     ensures { λ r. ⌜ Laid (now (out .entry)) at (Line·answer number class reason) (now (out .exit)) r ⌝ }
 {
     let behind = decimal(out, at, number);
-    let classed = field(out, behind, class as u64);
-    field(out, classed, reason as u64)
+    let classed = number_field(out, behind, class as u64);
+    number_field(out, classed, reason as u64)
 }
 
 // A root's label, empty for none.
@@ -93,25 +78,25 @@ pub fn label_field(out: &mut [u8], at: usize, label: &[u8]) -> usize
     ensures { λ r. ⌜ Laid (now (out .entry)) at (labelField (now (label .entry))) (now (out .exit)) r ⌝ }
 {
     if label.len() == 0 {
-        return put(out, at, b" -");
+        return octets::put(out, at, b" -");
     }
     let behind = put_byte(out, at, b' ');
-    put(out, behind, label)
+    octets::put(out, behind, label)
 }
 
 fn root_fields(out: &mut [u8], at: usize, generation: u64, label: &[u8]) -> usize
     ensures { λ r. ⌜ Laid (now (out .entry)) at (rootFields generation (now (label .entry))) (now (out .exit)) r ⌝ }
 {
-    let behind = field(out, at, generation);
+    let behind = number_field(out, at, generation);
     label_field(out, behind, label)
 }
 
 fn page_fields(out: &mut [u8], at: usize, level: u8, total: u64, count: u64) -> usize
     ensures { λ r. ⌜ Laid (now (out .entry)) at (pageFields level total count) (now (out .exit)) r ⌝ }
 {
-    let behind = field(out, at, level as u64);
-    let totalled = field(out, behind, total);
-    field(out, totalled, count)
+    let behind = number_field(out, at, level as u64);
+    let totalled = number_field(out, behind, total);
+    number_field(out, totalled, count)
 }
 
 // The line of a root: its generation and label count only beside class 0.
@@ -158,13 +143,13 @@ pub fn cut_line(out: &mut [u8], at: usize, number: u64) -> usize
     ensures { λ r. ⌜ Laid (now (out .entry)) at (cutLine number) (now (out .exit)) r ⌝ }
 {
     let behind = decimal(out, at, number);
-    put(out, behind, b" cut\n")
+    octets::put(out, behind, b" cut\n")
 }
 
 pub fn end_line(out: &mut [u8], at: usize, count: u64) -> usize
     ensures { λ r. ⌜ Laid (now (out .entry)) at (endLine count) (now (out .exit)) r ⌝ }
 {
-    let behind = put(out, at, b"end");
-    let counted = field(out, behind, count);
+    let behind = octets::put(out, at, b"end");
+    let counted = number_field(out, behind, count);
     put_byte(out, counted, b'\n')
 }

@@ -1,13 +1,14 @@
 -- Demand 3 for roots: every byte of an accepted root is a field, a constant, the slot, zero, or the checksum of the rest.
-use mathlib.Core.Path.{_≡_, refl, sym, ap, ap₂, _∙_}
-use mathlib.Core.Bool.{Bool, true, false, not, false≢true}
+use mathlib.Core.Path.{_≡_, refl, sym, ap, ap₂, subst, _∙_}
+use mathlib.Core.Bool.{Bool, true, false, not}
 use mathlib.Core.List.{List, _++_}
 use Prim.Native.Nat.{ℕ, _+_, _-_, _≤_, min}
 use native.Mathlib.Omega.{arith}
-use borrow.Author.Tests.{eqb-true}
+use borrow.Author.Tests.{eqb-true, not-false}
 use lib.Dec.{eqb}
 use lib.ListN.{length, take, drop, replicate, drop-of-length-le}
-use lib.Seq.{take-add, take-all, take-at}
+use lib.Seq.{take-all, take-at}
+use Rattle.octets.proofs.Parts.{grow}
 use Rattle.octets.specs.Bytes.{part, Bytes}
 use Rattle.octets.specs.Number.{field}
 use Rattle.octets.proofs.Join.{part-length}
@@ -36,16 +37,9 @@ len-of t = refl
 
 -- there is a label, or there is none and its length is 0
 none-zero : (n : ℕ) → not (eqb n 0) ≡ false → n ≡ 0
-none-zero n e = go (eqb n 0) refl e
-  where
-    go : (b : Bool) → eqb n 0 ≡ b → not b ≡ false → n ≡ 0
-    go true p e = eqb-true n 0 p
-    go false p e = absurd (false≢true (sym e))
+none-zero n e = eqb-true n 0 (not-false (eqb n 0) e)
 
 -- ---- bytes, from the front
-
-grow : (s t : List ℕ) (o w : ℕ) → take o s ≡ take o t → part s o w ≡ part t o w → take (o + w) s ≡ take (o + w) t
-grow s t o w a b = take-add o w s ∙ ap₂ _++_ a b ∙ sym (take-add o w t)
 
 -- the bytes with the checksum's four read as zeros
 zeroed-root : (s : List ℕ) → length s ≡ 4096 → zeroed 4092 4096 s ≡ take 4092 s ++ (replicate 4 0 ++ drop 4096 s)
@@ -160,31 +154,27 @@ module _ (slot b c : ℕ) (s t : List ℕ) (bs : Bytes s) (bt : Bytes t) (g : Ro
 
 -- ---- the theorem
 
-agree : {a b : Root} → a ≡ b → FieldsAgree a b
-agree e = record {
-  label = record {
-    there = ap (λ (r : Root). r .«has_label») e;
-    length-same = λ p. ap (λ (r : Root). r .label .len) e;
-    text-same = λ p. ap (λ (r : Root). textOf (r .label)) e;
-  };
-  uuid = ap (λ (r : Root). r .uuid) e;
-  generation = ap (λ (r : Root). r .generation) e;
-  blocks = ap (λ (r : Root). r .blocks) e;
-  catalog = ap (λ (r : Root). r .catalog) e;
-  allocation = ap (λ (r : Root). r .allocation) e;
-  cleanup = ap (λ (r : Root). r .cleanup) e;
-  next-object = ap (λ (r : Root). r .«next_object») e;
-  free-blocks = ap (λ (r : Root). r .«free_blocks») e;
-  next-job = ap (λ (r : Root). r .«next_job») e;
-  workspace = ap (λ (r : Root). r .workspace) e;
-  workspace-cursor = ap (λ (r : Root). r .«workspace_cursor») e;
+self : (a : Root) → FieldsAgree a a
+self a = record {
+  label = record { there = refl; length-same = λ p. refl; text-same = λ p. refl };
+  uuid = refl;
+  generation = refl;
+  blocks = refl;
+  catalog = refl;
+  allocation = refl;
+  cleanup = refl;
+  next-object = refl;
+  free-blocks = refl;
+  next-job = refl;
+  workspace = refl;
+  workspace-cursor = refl;
 }
 
 pub roots-agree : RootsAgree
 roots-agree slot b c s t x y =
     let p : rootDecode s slot b .root ≡ rootOf s = root-read s slot b (x .passed) in
     let q : rootDecode t slot c .root ≡ rootOf t = root-read t slot c (y .passed) in (
-      λ e. agree (p ∙ ap rootOf e ∙ sym q),
+      λ e. subst (FieldsAgree (rootDecode s slot b .root)) (p ∙ ap rootOf e ∙ sym q) (self (rootDecode s slot b .root)),
       λ a.
           bytes-same slot b c s t (x .bytes) (y .bytes) (root-exactly s slot b .0 (x .passed)) (root-exactly t slot c .0 (y .passed))
           (rw q at (rw p at a)),

@@ -1,5 +1,5 @@
 -- The choice between two roots, case by case.
-use mathlib.Core.Path.{_≡_, sym, _∙_}
+use mathlib.Core.Path.{_≡_, refl, sym, _∙_}
 use mathlib.Core.Bool.{Bool, true, false, not, _&&_}
 use Prim.Native.Nat.{ℕ, _≤_, _<_}
 use native.Mathlib.Omega.{arith}
@@ -18,7 +18,7 @@ use Rattle.root.specs.declared.MaybeRoot.{MaybeRoot}
 use Rattle.root.specs.declared.Selected.{Selected}
 use Rattle.root.specs.declared.Supported.{Supported}
 use Rattle.root.specs.Root.{noRoot}
-use Rattle.root.specs.Select.{sameLabel, sameRoot, selected, selectionRefused, selectPair, selectRoot, supportedRoot}
+use Rattle.root.specs.Select.{sameLabel, sameRoot, selection, selectionRefused, selectPair, selectBy, none, selectRoot, supportedRoot}
 
 -- ---- two roots
 
@@ -27,11 +27,11 @@ module _ (x : Selected) (a b : Root) (t : Bool) (p : t ≡ sameBytes (a .uuid) (
   unfolding selectPair outcome
   uuids-conflict q e = rw (sym p ∙ not-true t q) e
 
-  pub second-newer : not t ≡ false → a .generation < b .generation → x ≡ selected 2 b → x ≡ selectPair a b
+  pub second-newer : not t ≡ false → a .generation < b .generation → x ≡ selection 2 b → x ≡ selectPair a b
   unfolding selectPair outcome
   second-newer q h e = rw (sym p ∙ not-false t q, ne-eqb (a .generation) (b .generation) (omega arith), lt-leb (b .generation) (a .generation) h) e
 
-  pub first-newer : not t ≡ false → b .generation < a .generation → x ≡ selected 1 a → x ≡ selectPair a b
+  pub first-newer : not t ≡ false → b .generation < a .generation → x ≡ selection 1 a → x ≡ selectPair a b
   unfolding selectPair outcome
   first-newer q h e = rw (sym p ∙ not-false t q, ne-eqb (a .generation) (b .generation) (omega arith), le-leb (b .generation) (a .generation) (omega arith)) e
 
@@ -43,7 +43,7 @@ module _ (x : Selected) (a b : Root) (t : Bool) (p : t ≡ sameBytes (a .uuid) (
     unfolding selectPair outcome
     same-conflict q z e = rw (sym p ∙ not-false t q, eq-eqb (a .generation) (b .generation) equal, sym g ∙ not-true u z) e
 
-    pub first-stands : not t ≡ false → not u ≡ false → x ≡ selected 1 a → x ≡ selectPair a b
+    pub first-stands : not t ≡ false → not u ≡ false → x ≡ selection 1 a → x ≡ selectPair a b
     unfolding selectPair outcome
     first-stands q z e = rw (sym p ∙ not-false t q, eq-eqb (a .generation) (b .generation) equal, sym g ∙ not-false u z, le-leb (b .generation) (a .generation) h) e
 
@@ -51,29 +51,47 @@ pub ruleset choices = (uuids-conflict, second-newer, first-newer, same-conflict,
 
 -- ---- two, one or none
 
-module _ (x : Selected) (a b : MaybeRoot) where
-  pub select-two : a .present ≡ true → b .present ≡ true → x ≡ selectPair (a .root) (b .root) → x ≡ selectRoot a b
-  select-two p q e = rw (p, q) e
+-- the fields of a root that isn't there don't count
+without-first : (p : Bool) (a b : Root) → selectBy false p noRoot b ≡ selectBy false p a b
+without-first true a b = refl
+without-first false a b = refl
 
-  pub select-first : a .present ≡ true → b .present ≡ false → x ≡ selected 1 (a .root) → x ≡ selectRoot a b
-  select-first p q e = rw (p, q) e
+module _ (x : Selected) (b : MaybeRoot) where
+  pub select-none : not (b .present) ≡ true → x ≡ selectionRefused (Corrupt reason.neitherCurrentRootIsValid) → x ≡ selectRoot none b
+  select-none q e = rw (not-true (b .present) q) e
 
-  pub select-second : a .present ≡ false → b .present ≡ true → x ≡ selected 2 (b .root) → x ≡ selectRoot a b
-  select-second p q e = rw (p, q) e
+  pub select-second : not (b .present) ≡ false → x ≡ selection 2 (b .root) → x ≡ selectRoot none b
+  select-second q e = rw (not-false (b .present) q) e
 
-  pub select-none : a .present ≡ false → b .present ≡ false → x ≡ selectionRefused (Corrupt reason.neitherCurrentRootIsValid) → x ≡ selectRoot a b
-  select-none p q e = rw (p, q) e
+  module _ (a : MaybeRoot) where
+    pub select-not-first : not (a .present) ≡ true → x ≡ selectRoot none b → x ≡ selectRoot a b
+    select-not-first p e = rw (not-true (a .present) p) (e ∙ without-first (b .present) (a .root) (b .root))
 
-pub ruleset select = (select-two, select-first, select-second, select-none)
+    pub select-first : not (a .present) ≡ false → not (b .present) ≡ true → x ≡ selection 1 (a .root) → x ≡ selectRoot a b
+    select-first p q e = rw (not-false (a .present) p, not-true (b .present) q) e
+
+    pub select-two : not (a .present) ≡ false → not (b .present) ≡ false → x ≡ selectPair (a .root) (b .root) → x ≡ selectRoot a b
+    select-two p q e = rw (not-false (a .present) p, not-false (b .present) q) e
+
+pub ruleset select = (select-none, select-second, select-not-first, select-first, select-two)
 
 -- ---- labels
 
-pub labels-equal : (x y t : Bool) (a b : Label) → x ≡ true → y ≡ true → t ≡ sameBytes (a .bytes) (b .bytes) → (eqb (a .len) (b .len) && t) ≡ sameLabel x a y b
-labels-equal x y t a b p q e = rw (p, q, e)
+module _ (x y : Bool) (a b : Label) where
+  pub label-absent : not x ≡ true → not y ≡ sameLabel x a y b
+  label-absent p = rw (not-true x p) (go y)
+    where
+      go : (y : Bool) → not y ≡ sameLabel false a y b
+      go true = refl
+      go false = refl
 
-pub labels-none : (x y : Bool) (a b : Label) → x ≡ false → not y ≡ sameLabel x a y b
-labels-none x true a b p = rw p
-labels-none x false a b p = rw p
+  pub label-alone : not x ≡ false → not y ≡ true → false ≡ sameLabel x a y b
+  label-alone p q = rw (not-false x p, not-true y q)
+
+  pub labels-both : (t : Bool) → not x ≡ false → not y ≡ false → t ≡ sameBytes (a .bytes) (b .bytes) → (eqb (a .len) (b .len) && t) ≡ sameLabel x a y b
+  labels-both t p q e = rw (not-false x p, not-false y q, e)
+
+pub ruleset labels = (label-absent, label-alone, labels-both)
 
 -- ---- a root that was decoded
 

@@ -1,5 +1,5 @@
 -- The answers of `Root::decode`, and what the checks before the fields tell of the block.
-use mathlib.Core.Path.{_≡_, sym, _∙_}
+use mathlib.Core.Path.{_≡_, refl, sym, _∙_}
 use mathlib.Core.List.{List}
 use Prim.Native.Nat.{ℕ, _≤_}
 use borrow.Author.Tests.{eqb-true, leb-true}
@@ -44,4 +44,4 @@ unfolding checkBlock checkLabel
 block-read s slot blocks c p q =
     let h = all-hold (blockDemands s slot blocks) (sym p ∙ q) in
     let label = all-hold (labelFieldDemands s) (passed-is (checkLabel s) (h .1 .1 .0)) in
-    (place-size s slot blocks (checkPlace s slot blocks) (λ i. checkPlace s slot blocks) (passed-is (checkPlace s slot blocks) (h .0)), leb-true (labelLength s) 255 (label .0))
+    (place-size s slot blocks (checkPlace s slot blocks) refl (passed-is (checkPlace s slot blocks) (h .0)), leb-true (labelLength s) 255 (label .0))

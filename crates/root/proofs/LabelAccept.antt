@@ -23,6 +23,7 @@ use Rattle.root.specs.Label.{dot, dots, isLabel, labelNew}
 use Rattle.root.specs.Accept.{HasCharacter, MayStand, LabelHolds, LabelExactly}
 use Rattle.root.specs.Accept.HasCharacter.{here, later}
 use Rattle.root.proofs.Text.{tests-hold, holds-tests}
+use Rattle.root.proofs.Refs.{never-holds}
 
 -- ---- characters
 
@@ -80,11 +81,7 @@ label-accepted s e =
     }
 
 differs : (s x : List ℕ) → (s ≡ x → ⊥) → not (sameBytes s x) ≡ true
-differs s x n = go (sameBytes s x) refl
-  where
-    go : (b : Bool) → sameBytes s x ≡ b → not b ≡ true
-    go true e = absurd (n (same-is s x e))
-    go false e = refl
+differs s x n = never-holds (sameBytes s x) (λ e. n (same-is s x e))
 
 pub accepted-label : (s : List ℕ) → LabelHolds s → isLabel s ≡ true
 accepted-label s a =

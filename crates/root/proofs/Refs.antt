@@ -5,34 +5,23 @@ use mathlib.Core.Logic.{_⊎_, inl, inr}
 use mathlib.Core.List.{List, [], _∷_}
 use Prim.Native.Nat.{ℕ, zero, suc, _-_, _≤_, _<_}
 use native.Mathlib.Omega.{arith}
-use borrow.Author.Tests.{le-leb, leb-true, lt-ltb, ltb-true, eq-eqb, ne-eqb, eqb-true, eqb-false, not-true}
+use borrow.Author.Tests.{le-leb, leb-true, lt-ltb, ltb-true, ne-eqb, eqb-true, eqb-false, not-true}
 use lib.Dec.{leb, ltb, eqb}
 use lib.ListN.{length, replicate}
 use Rattle.error.specs.declared.Validation.{Validation}
 use Rattle.error.specs.declared.Check.the-variants.{Passed}
 use Rattle.error.proofs.Exactly.{all-hold, all-pass, passed-test}
-use Rattle.error.proofs.Tests.{and-left, and-right, and-both, or-first, or-second, not-yes}
+use Rattle.error.proofs.Tests.{and-left, and-right, and-both, or-second, one-of, is-one-of, not-yes}
 use Rattle.octets.specs.Bytes.{allZero}
 use Rattle.volume.specs.declared.TreeRef.{TreeRef}
 use Rattle.volume.specs.Blocks.{isNonreservedBlock, isBankRoot, isBankBlock, isRootSlot}
 use Rattle.volume.specs.References.{validateBlocks, treeRefDemands, validateTreeRef, workspaceRefDemands, validateWorkspaceRef, rootSlotDemands, validateRootSlot, validateUuid}
 
--- ---- one of two
+-- ---- a test that never holds
 
-either : (a b : Bool) → (a || b) ≡ true → (a ≡ true) ⊎ (b ≡ true)
-either true b e = inl refl
-either false b e = inr e
-
-one-of : (n a b : ℕ) → (eqb n a || eqb n b) ≡ true → (n ≡ a) ⊎ (n ≡ b)
-one-of n a b e = go (either (eqb n a) (eqb n b) e)
-  where
-    go : (eqb n a ≡ true) ⊎ (eqb n b ≡ true) → (n ≡ a) ⊎ (n ≡ b)
-    go (inl p) = inl (eqb-true n a p)
-    go (inr p) = inr (eqb-true n b p)
-
-is-one-of : (n a b : ℕ) → (n ≡ a) ⊎ (n ≡ b) → (eqb n a || eqb n b) ≡ true
-is-one-of n a b (inl p) = or-first (eqb n a) (eqb n b) (eq-eqb n a p)
-is-one-of n a b (inr p) = or-second (eqb n a) (eqb n b) (eq-eqb n b p)
+pub never-holds : (t : Bool) → (t ≡ true → ⊥) → not t ≡ true
+never-holds true n = absurd (n refl)
+never-holds false n = refl
 
 -- ---- zeros
 
@@ -52,10 +41,6 @@ zeros-zero (suc n) = zeros-zero n
 -- ---- the volume's size, slots, UUIDs
 
 module _ (blocks : ℕ) (mode : Validation) where
-  pub blocks-enough : validateBlocks blocks mode ≡ Passed → 1024 ≤ blocks
-  unfolding validateBlocks
-  blocks-enough e = leb-true 1024 blocks (all-hold _ e .0)
-
   pub enough-blocks : 1024 ≤ blocks → validateBlocks blocks mode ≡ Passed
   unfolding validateBlocks
   enough-blocks h = all-pass _ (le-leb 1024 blocks h, tt)
@@ -75,11 +60,7 @@ uuid-some uuid mode e z = false≢true (sym (not-true (allZero uuid) (all-hold _
 
 pub some-uuid : (uuid : List ℕ) (mode : Validation) → length uuid ≡ 16 → (uuid ≡ replicate 16 0 → ⊥) → validateUuid uuid mode ≡ Passed
 unfolding validateUuid
-some-uuid uuid mode l n = all-pass _ (go (allZero uuid) refl, tt)
-  where
-    go : (b : Bool) → allZero uuid ≡ b → not b ≡ true
-    go true e = absurd (n (zeros-are uuid 16 l e))
-    go false e = refl
+some-uuid uuid mode l n = all-pass _ (never-holds (allZero uuid) (λ e. n (zeros-are uuid 16 l e)), tt)
 
 -- ---- references
 

@@ -27,6 +27,7 @@ pub record MayStand (p : ℕ) : Type 0 where
   pub no-low : p ≤ 0x1F → ⊥
   pub no-high : 0x7F ≤ p → p ≤ 0x9F → ⊥
 
+-- section 3: what holds of a label
 pub record LabelHolds (text : List ℕ) : Type 0 where
   pub utf8-is : Utf8 text
   pub least : 1 ≤ length text
@@ -48,6 +49,7 @@ pub record TreeHolds (block born generation blocks : ℕ) : Type 0 where
   pub some : 1 ≤ born
   pub not-newer : born ≤ generation
 
+-- section 3: what holds of an accepted root
 pub record RootHolds (s : List ℕ) (slot blocks : ℕ) : Type 0 where
   -- where it stands
   pub size : length s ≡ 4096

@@ -12,6 +12,7 @@ use Rattle.utf8.specs.Rfc3629.{number}
 use Rattle.root.specs.Label.{dots, labelNew}
 use Rattle.root.specs.Root.{rootDecode}
 
+-- the text makes a label
 abbrev pub isNew : List ℕ → Bool
 isNew text = isPassed (labelNew text .answer)
 
@@ -19,6 +20,7 @@ isNew text = isPassed (labelNew text .answer)
 abbrev pub u009F : List ℕ
 u009F = 0xC2 ∷ 0x9F ∷ []
 
+-- section 3: labels
 unfoldable pub cases : List Bool
 cases =
     -- `-` is a label, `..` isn't, U+009F isn't
@@ -28,13 +30,14 @@ cases =
     ∷ []
 
 -- a root of so many bytes, in any slot of a volume of so many blocks, answers this class and reason
-abbrev pub Answers : ℕ → ℕ → ℕ → ℕ → Type 0
-Answers bytes blocks class why =
+abbrev pub RootAnswers : ℕ → ℕ → ℕ → ℕ → Type 0
+RootAnswers bytes blocks class why =
     (s : List ℕ) (slot : ℕ) → length s ≡ bytes → (checkClass (rootDecode s slot blocks .answer) ≡ class) × (checkReason (rootDecode s slot blocks .answer) ≡ why)
 
+-- section 3: the labels, and two roots' answers
 pub record CasesHold : Type 0 where
   pub labels : allTrue cases ≡ true
   -- 4,096 bytes, blocks 1,023: class 1
-  pub few-blocks : Answers 4096 1023 1 0
+  pub few-blocks : RootAnswers 4096 1023 1 0
   -- 4,095 bytes, blocks 1,023: class 3
-  pub short-block : Answers 4095 1023 3 reason.rootPageLength
+  pub short-block : RootAnswers 4095 1023 3 reason.rootPageLength

@@ -29,6 +29,7 @@ generalDemands uuid generation size cursor slot blocks mode =
     ∷ ltb cursor (groupsOf blocks) otherwise violationOf mode reason.workspaceScanCursorExceedsGeometry
     ∷ []
 
+-- section 3: the first that fails answers
 unfoldable pub checkGeneral : List ℕ → ℕ → ℕ → ℕ → ℕ → ℕ → Validation → Check
 checkGeneral uuid generation size cursor slot blocks mode = demands (generalDemands uuid generation size cursor slot blocks mode)
 
@@ -40,6 +41,7 @@ refsDemands catalog allocation cleanup blocks mode =
     ∷ passing (validateTreeRef cleanup blocks mode)
     ∷ []
 
+-- section 3: the first that fails answers
 unfoldable pub checkRefs : TreeRef → TreeRef → TreeRef → ℕ → Validation → Check
 checkRefs catalog allocation cleanup blocks mode = demands (refsDemands catalog allocation cleanup blocks mode)
 
@@ -50,23 +52,26 @@ workspaceDemands workspace generation blocks mode =
     ∷ (isBankRoot (workspace .block) blocks && leb (workspace .generation) generation) otherwise violationOf mode reason.invalidWorkspaceRoot
     ∷ []
 
+-- section 3: the first that fails answers
 unfoldable pub checkWorkspace : TreeRef → ℕ → ℕ → Validation → Check
 checkWorkspace workspace generation blocks mode = demands (workspaceDemands workspace generation blocks mode)
 
--- three distinct numbers; three numbers up to a limit
-abbrev pub apart : ℕ → ℕ → ℕ → Bool
-apart a b c = not (eqb a b) && not (eqb a c) && not (eqb b c)
+-- three distinct numbers
+abbrev pub areApart : ℕ → ℕ → ℕ → Bool
+areApart a b c = not (eqb a b) && not (eqb a c) && not (eqb b c)
 
-abbrev pub upTo : ℕ → ℕ → ℕ → ℕ → Bool
-upTo a b c limit = leb a limit && leb b limit && leb c limit
+-- none is above a limit
+abbrev pub areUpTo : ℕ → ℕ → ℕ → ℕ → Bool
+areUpTo a b c limit = leb a limit && leb b limit && leb c limit
 
 -- the three trees together: three distinct blocks, none newer than the root
 abbrev pub treesDemands : TreeRef → TreeRef → TreeRef → ℕ → Validation → List Demand
 treesDemands catalog allocation cleanup generation mode =
-    apart (catalog .block) (allocation .block) (cleanup .block) otherwise violationOf mode reason.rootTreeReferencesShareABlock
-    ∷ upTo (catalog .generation) (allocation .generation) (cleanup .generation) generation otherwise violationOf mode reason.rootTreeGenerationIsNewerThanRoot
+    areApart (catalog .block) (allocation .block) (cleanup .block) otherwise violationOf mode reason.rootTreeReferencesShareABlock
+    ∷ areUpTo (catalog .generation) (allocation .generation) (cleanup .generation) generation otherwise violationOf mode reason.rootTreeGenerationIsNewerThanRoot
     ∷ []
 
+-- section 3: the first that fails answers
 unfoldable pub checkTrees : TreeRef → TreeRef → TreeRef → ℕ → Validation → Check
 checkTrees catalog allocation cleanup generation mode = demands (treesDemands catalog allocation cleanup generation mode)
 
@@ -78,6 +83,7 @@ numbersDemands object job free blocks mode =
     ∷ leb free (blocks - 1027) otherwise violationOf mode reason.freeBlockCountExceedsGeometry
     ∷ []
 
+-- section 3: the first that fails answers
 unfoldable pub checkNumbers : ℕ → ℕ → ℕ → ℕ → Validation → Check
 checkNumbers object job free blocks mode = demands (numbersDemands object job free blocks mode)
 
@@ -91,5 +97,6 @@ fieldDemands r slot blocks mode =
     ∷ passing (checkNumbers (r .«next_object») (r .«next_job») (r .«free_blocks») blocks mode)
     ∷ []
 
+-- section 3: the first that fails answers
 unfoldable pub validateRootFields : Root → ℕ → ℕ → Validation → Check
 validateRootFields r slot blocks mode = demands (fieldDemands r slot blocks mode)

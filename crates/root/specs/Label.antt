@@ -19,6 +19,7 @@ use Rattle.root.specs.declared.NewLabel.{NewLabel}
 abbrev pub dot : List ℕ
 dot = 0x2E ∷ []
 
+-- section 3: the text `..`
 abbrev pub dots : List ℕ
 dots = 0x2E ∷ 0x2E ∷ []
 
@@ -44,6 +45,7 @@ labelOf text = record { len = length text; bytes = paddedTo 255 text }
 unfoldable pub noLabel : Label
 noLabel = record { len = 0; bytes = replicate 255 0 }
 
+-- section 3: beside a refusal the label is all zero
 abbrev pub labelRefused : Error → NewLabel
 labelRefused e = record { answer = Refused e; label = noLabel }
 
@@ -51,5 +53,6 @@ labelRefused e = record { answer = Refused e; label = noLabel }
 abbrev pub labelDemands : List ℕ → List Demand
 labelDemands text = isLabel text otherwise InvalidInput reason.invalidVolumeLabel ∷ []
 
+-- section 3: `Label::new`
 unfoldable pub labelNew : List ℕ → NewLabel
 labelNew text = outcome (labelDemands text) labelRefused (record { answer = Passed; label = labelOf text })

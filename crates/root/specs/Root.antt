@@ -30,12 +30,15 @@ magic = 0x43 ∷ 0x46 ∷ 0x53 ∷ 0x58 ∷ 0x52 ∷ 0x4F ∷ 0x4F ∷ 0x54 ∷ 
 abbrev pub labelLength : List ℕ → ℕ
 labelLength s = u16At s 184
 
+-- section 3: a label of length 0 is none
 abbrev pub hasLabel : List ℕ → Bool
 hasLabel s = not (eqb (labelLength s) 0)
 
+-- section 3: its text, from byte 186 on
 unfoldable pub labelText : List ℕ → List ℕ
 labelText s = part s 186 (labelLength s)
 
+-- section 3: the bytes from there to the checksum
 unfoldable pub labelPadding : List ℕ → List ℕ
 labelPadding s = part s (186 + labelLength s) (4092 - (186 + labelLength s))
 
@@ -65,6 +68,7 @@ placeDemands s slot blocks =
     ∷ passing (validateRootSlot slot blocks Input)
     ∷ []
 
+-- section 3: the first that fails answers
 unfoldable pub checkPlace : List ℕ → ℕ → ℕ → Check
 checkPlace s slot blocks = demands (placeDemands s slot blocks)
 
@@ -85,6 +89,7 @@ envelopeDemands s =
     ∷ areSizesRight s otherwise Corrupt reason.rootEnvelope
     ∷ []
 
+-- section 3: the first that fails answers
 unfoldable pub checkEnvelope : List ℕ → Check
 checkEnvelope s = demands (envelopeDemands s)
 
@@ -95,6 +100,7 @@ textDemands text =
     ∷ isLabel text otherwise Corrupt reason.invalidRootLabel
     ∷ []
 
+-- section 3: the first that fails answers
 unfoldable pub checkText : List ℕ → Check
 checkText text = demands (textDemands text)
 
@@ -106,6 +112,7 @@ labelFieldDemands s =
     ∷ passing (cond (eqb (labelLength s) 0) Passed (checkText (labelText s)))
     ∷ []
 
+-- section 3: the first that fails answers
 unfoldable pub checkLabel : List ℕ → Check
 checkLabel s = demands (labelFieldDemands s)
 
@@ -117,6 +124,7 @@ identityDemands s slot blocks =
     ∷ eqb (u64At s 144) 16384 otherwise Corrupt reason.rootMaintenanceReserve
     ∷ []
 
+-- section 3: the first that fails answers
 unfoldable pub checkIdentity : List ℕ → ℕ → ℕ → Check
 checkIdentity s slot blocks = demands (identityDemands s slot blocks)
 
@@ -129,6 +137,7 @@ blockDemands s slot blocks =
     ∷ passing (checkIdentity s slot blocks)
     ∷ []
 
+-- section 3: the first that fails answers
 unfoldable pub checkBlock : List ℕ → ℕ → ℕ → Check
 checkBlock s slot blocks = demands (blockDemands s slot blocks)
 
@@ -136,6 +145,7 @@ checkBlock s slot blocks = demands (blockDemands s slot blocks)
 abbrev pub noRef : TreeRef
 noRef = record { block = 0; generation = 0 }
 
+-- section 3: the root that stands beside a refusal, all zero
 unfoldable pub noRoot : Root
 noRoot = record {
   «has_label» = false;
@@ -153,6 +163,7 @@ noRoot = record {
   «workspace_cursor» = 0;
 }
 
+-- section 3: a refusal
 abbrev pub rootRefused : Error → Decoded
 rootRefused e = record { answer = Refused e; root = noRoot }
 
@@ -163,5 +174,6 @@ rootDemands s slot blocks =
     ∷ passing (validateRootFields (rootOf s) slot blocks Disk)
     ∷ []
 
+-- section 3: `Root::decode`
 unfoldable pub rootDecode : List ℕ → ℕ → ℕ → Decoded
 rootDecode s slot blocks = outcome (rootDemands s slot blocks) rootRefused (record { answer = Passed; root = rootOf s })

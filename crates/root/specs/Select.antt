@@ -26,6 +26,7 @@ sameLabel true a false b = false
 sameLabel false a true b = false
 sameLabel false a false b = true
 
+-- section 3: references are the same
 abbrev pub sameRef : TreeRef → TreeRef → Bool
 sameRef a b = eqb (a .block) (b .block) && eqb (a .generation) (b .generation)
 
@@ -46,9 +47,10 @@ sameRoot a b =
     && eqb (a .«workspace_cursor») (b .«workspace_cursor»)
 
 -- the answer: 1 for the first, 2 for the second, and the root itself
-abbrev pub selected : ℕ → Root → Selected
-selected n r = record { answer = Passed; which = n; root = r }
+abbrev pub selection : ℕ → Root → Selected
+selection n r = record { answer = Passed; which = n; root = r }
 
+-- section 3: a refusal, and neither root
 abbrev pub selectionRefused : Error → Selected
 selectionRefused e = record { answer = Refused e; which = 0; root = noRoot }
 
@@ -59,16 +61,18 @@ pairDemands a b =
     ∷ (not (eqb (a .generation) (b .generation)) || sameRoot a b) otherwise Corrupt reason.sameGenerationRootsConflict
     ∷ []
 
+-- section 3: of two roots the newer one, the first of two equal ones
 unfoldable pub selectPair : Root → Root → Selected
-selectPair a b = outcome (pairDemands a b) selectionRefused (cond (leb (b .generation) (a .generation)) (selected 1 a) (selected 2 b))
+selectPair a b = outcome (pairDemands a b) selectionRefused (cond (leb (b .generation) (a .generation)) (selection 1 a) (selection 2 b))
 
 -- none, class 3; one, that one; two, as above
 abbrev pub selectBy : Bool → Bool → Root → Root → Selected
 selectBy false false a b = selectionRefused (Corrupt reason.neitherCurrentRootIsValid)
-selectBy true false a b = selected 1 a
-selectBy false true a b = selected 2 b
+selectBy true false a b = selection 1 a
+selectBy false true a b = selection 2 b
 selectBy true true a b = selectPair a b
 
+-- section 3: `select_root`
 abbrev pub selectRoot : MaybeRoot → MaybeRoot → Selected
 selectRoot a b = selectBy (a .present) (b .present) (a .root) (b .root)
 
@@ -76,9 +80,11 @@ selectRoot a b = selectBy (a .present) (b .present) (a .root) (b .root)
 abbrev pub oneRoot : Root → MaybeRoot
 oneRoot r = record { present = true; root = r }
 
+-- section 3: no root
 abbrev pub none : MaybeRoot
 none = record { present = false; root = noRoot }
 
+-- section 3: `supported_root`
 abbrev pub supportedRoot : Decoded → Supported
 supportedRoot d =
     cond (eqb (checkClass (d .answer)) 0) (record { answer = Passed; found = oneRoot (d .root) })

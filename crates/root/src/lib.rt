@@ -6,8 +6,8 @@ ghost use Rattle.octets.specs.Bytes.{part};
 ghost use Rattle.octets.specs.Number.{u16At};
 ghost use Rattle.root.specs.Label.{isLabel, labelOf, noLabel, labelNew};
 ghost use Rattle.root.specs.Root.{labelText, rootOf, checkPlace, checksumFits, areSizesRight, checkEnvelope, checkText, checkLabel, checkIdentity, checkBlock, noRoot, rootDecode};
-ghost use Rattle.root.specs.Fields.{apart, upTo, checkGeneral, checkRefs, checkWorkspace, checkTrees, checkNumbers, validateRootFields};
-ghost use Rattle.root.specs.Select.{sameLabel, sameRef, sameRoot, selected, selectionRefused, selectPair, selectRoot, supportedRoot};
+ghost use Rattle.root.specs.Fields.{areApart, areUpTo, checkGeneral, checkRefs, checkWorkspace, checkTrees, checkNumbers, validateRootFields};
+ghost use Rattle.root.specs.Select.{sameLabel, sameRef, sameRoot, selection, selectionRefused, selectPair, none, selectRoot, supportedRoot};
 use error::Check;
 use error::Error;
 use error::Validation;
@@ -259,7 +259,7 @@ fn uuid_at(bytes: &[u8]) -> [u8; 16]
     octets::copy16(&bytes[Root::UUID_OFFSET..Root::SELF_BLOCK_OFFSET])
 }
 
-fn read_root(bytes: &[u8]) -> Root
+fn root_of(bytes: &[u8]) -> Root
     requires { ⌜ (length (now bytes) ≡ 4096) × (u16At (now bytes) 184 ≤ 255) ⌝ }
     ensures { λ r. ⌜ r ≡ rootOf (now (bytes .entry)) ⌝ }
 {
@@ -359,27 +359,24 @@ fn check_workspace(workspace: TreeRef, generation: u64, blocks: u64, mode: Valid
 }
 
 fn are_apart(a: u64, b: u64, c: u64) -> bool
-    ensures { λ r. ⌜ r ≡ apart a b c ⌝ }
+    ensures { λ r. ⌜ r ≡ areApart a b c ⌝ }
 {
     (a != b) & (a != c) & (b != c)
 }
 
 fn are_up_to(a: u64, b: u64, c: u64, limit: u64) -> bool
-    ensures { λ r. ⌜ r ≡ upTo a b c limit ⌝ }
+    ensures { λ r. ⌜ r ≡ areUpTo a b c limit ⌝ }
 {
     (a <= limit) & (b <= limit) & (c <= limit)
 }
 
 // The three trees together.
-fn check_trees(
-    catalog: TreeRef,
-    allocation: TreeRef,
-    cleanup: TreeRef,
-    generation: u64,
-    mode: Validation,
-) -> Check
-    ensures { λ r. ⌜ r ≡ checkTrees catalog allocation cleanup generation mode ⌝ }
+fn check_trees(root: Root, mode: Validation) -> Check
+    ensures { λ r. ⌜ r ≡ checkTrees (root .catalog) (root .allocation) (root .cleanup) (root .generation) mode ⌝ }
 {
+    let catalog = root.catalog;
+    let allocation = root.allocation;
+    let cleanup = root.cleanup;
     if !are_apart(catalog.block, allocation.block, cleanup.block) {
         return Check::Refused(violation(mode, reason::ROOT_TREE_REFERENCES_SHARE_A_BLOCK));
     }
@@ -387,7 +384,7 @@ fn check_trees(
         catalog.generation,
         allocation.generation,
         cleanup.generation,
-        generation,
+        root.generation,
     ) {
         return Check::Refused(violation(mode, reason::ROOT_TREE_GENERATION_IS_NEWER_THAN_ROOT));
     }
@@ -439,13 +436,7 @@ pub fn validate_root_fields(root: Root, slot: u64, blocks: u64, mode: Validation
     let Check::Passed = workspace else {
         return workspace;
     };
-    let trees = check_trees(
-        root.catalog,
-        root.allocation,
-        root.cleanup,
-        root.generation,
-        mode,
-    );
+    let trees = check_trees(root, mode);
     let Check::Passed = trees else {
         return trees;
     };
@@ -554,7 +545,7 @@ impl Root {
                 root,
             };
         };
-        let root = read_root(bytes);
+        let root = root_of(bytes);
         let fields = validate_root_fields(root, slot, blocks, Validation::Disk);
         let Check::Passed = fields else {
             let none = Root::none();
@@ -574,16 +565,15 @@ impl Root {
 fn same_label(has_a: bool, a: Label, has_b: bool, b: Label) -> bool
     ensures { λ r. ⌜ r ≡ sameLabel «has_a» a «has_b» b ⌝ }
 {
-    let bytes_a = a.bytes;
-    let bytes_b = b.bytes;
-    let equal = (a.len == b.len) & octets::same_bytes(&bytes_a, &bytes_b);
-    if has_a {
-        if has_b {
-            return equal;
-        }
+    if !has_a {
+        return !has_b;
+    }
+    if !has_b {
         return false;
     }
-    !has_b
+    let bytes_a = a.bytes;
+    let bytes_b = b.bytes;
+    (a.len == b.len) & octets::same_bytes(&bytes_a, &bytes_b)
 }
 
 fn same_ref(a: TreeRef, b: TreeRef) -> bool
@@ -613,8 +603,8 @@ fn same_root(a: Root, b: Root) -> bool
         & (a.workspace_cursor == b.workspace_cursor)
 }
 
-fn chosen(which: u8, root: Root) -> Selected
-    ensures { λ r. ⌜ r ≡ selected which root ⌝ }
+fn selection(which: u8, root: Root) -> Selected
+    ensures { λ r. ⌜ r ≡ selection which root ⌝ }
 {
     Selected {
         answer: Check::Passed,
@@ -623,7 +613,7 @@ fn chosen(which: u8, root: Root) -> Selected
     }
 }
 
-fn refused_selection(e: Error) -> Selected
+fn selection_refused(e: Error) -> Selected
     ensures { λ r. ⌜ r ≡ selectionRefused e ⌝ }
 {
     let root = Root::none();
@@ -640,36 +630,41 @@ fn select_pair(a: Root, b: Root) -> Selected
     let uuid_a = a.uuid;
     let uuid_b = b.uuid;
     if !octets::same_bytes(&uuid_a, &uuid_b) {
-        return refused_selection(Error::Corrupt(reason::ROOT_UUIDS_CONFLICT));
+        return selection_refused(Error::Corrupt(reason::ROOT_UUIDS_CONFLICT));
     }
     if a.generation < b.generation {
-        return chosen(2, b);
+        return selection(2, b);
     }
     if b.generation < a.generation {
-        return chosen(1, a);
+        return selection(1, a);
     }
     if !same_root(a, b) {
-        return refused_selection(Error::Corrupt(reason::SAME_GENERATION_ROOTS_CONFLICT));
+        return selection_refused(Error::Corrupt(reason::SAME_GENERATION_ROOTS_CONFLICT));
     }
-    chosen(1, a)
+    selection(1, a)
+}
+
+// The second slot's root, where the first has none.
+fn select_second(b: MaybeRoot) -> Selected
+    ensures { λ r. ⌜ r ≡ selectRoot none b ⌝ }
+{
+    if !b.present {
+        return selection_refused(Error::Corrupt(reason::NEITHER_CURRENT_ROOT_IS_VALID));
+    }
+    selection(2, b.root)
 }
 
 // The current root of the two slots' roots.
 pub fn select_root(a: MaybeRoot, b: MaybeRoot) -> Selected
     ensures { λ r. ⌜ r ≡ selectRoot a b ⌝ }
 {
-    let first = a.root;
-    let second = b.root;
-    if a.present {
-        if b.present {
-            return select_pair(first, second);
-        }
-        return chosen(1, first);
+    if !a.present {
+        return select_second(b);
     }
-    if b.present {
-        return chosen(2, second);
+    if !b.present {
+        return selection(1, a.root);
     }
-    refused_selection(Error::Corrupt(reason::NEITHER_CURRENT_ROOT_IS_VALID))
+    select_pair(a.root, b.root)
 }
 
 // A corrupt root counts as none; any other refusal is passed on.

@@ -7,12 +7,9 @@ use native.Mathlib.Nat.{le-of-eq}
 use native.Mathlib.Omega.{arith}
 use lib.ListN.{length, getD, take, drop, length-drop, List·getD-eq-default}
 use lib.Seq.{take-all}
+use Rattle.octets.proofs.Parts.{part-from}
 use Rattle.utf8.specs.Reading.{one, two, three, four}
 use Rattle.utf8.specs.Inside.{charLen, charLen2, charLen3, charLen4}
-
--- the part from i to the end
-pub rest : (i : ℕ) (s : List ℕ) → take (length s - i) (drop i s) ≡ drop i s
-rest i s = take-all (length s - i) (drop i s) (le-of-eq (length-drop i s))
 
 pub past : (s : List ℕ) (at : ℕ) → length s ≤ at → 0 ≡ getD s at 0
 past s at h = sym (List·getD-eq-default s 0 h)
@@ -27,7 +24,7 @@ charLen-here (a ∷ s) r h p q = rw (sym p ∙ q)
 
 pub charLen-next : (s : List ℕ) (r : Bool) (n : ℕ) → 1 ≤ length s → r ≡ one (getD s 0 0) → r ≡ false → n ≡ charLen2 (getD s 0 0) (take (length s - 1) (drop 1 s)) → n ≡ charLen s
 charLen-next [] r n h p q e = absurd (omega arith)
-charLen-next (a ∷ s) r n h p q e = rw (sym p ∙ q) (e ∙ simp (rest 1))
+charLen-next (a ∷ s) r n h p q e = rw (sym p ∙ q) (e ∙ rw (part-from (a ∷ s) 1))
 
 pub charLen2-none : (a : ℕ) (s : List ℕ) → length s < 1 → 0 ≡ charLen2 a s
 charLen2-none a [] h = refl
@@ -39,7 +36,7 @@ charLen2-here a (b ∷ s) r h p q = rw (sym p ∙ q)
 
 pub charLen2-next : (a : ℕ) (s : List ℕ) (r : Bool) (n : ℕ) → 1 ≤ length s → r ≡ two a (getD s 0 0) → r ≡ false → n ≡ charLen3 a (getD s 0 0) (take (length s - 1) (drop 1 s)) → n ≡ charLen2 a s
 charLen2-next a [] r n h p q e = absurd (omega arith)
-charLen2-next a (b ∷ s) r n h p q e = rw (sym p ∙ q) (e ∙ simp (rest 1))
+charLen2-next a (b ∷ s) r n h p q e = rw (sym p ∙ q) (e ∙ rw (part-from (b ∷ s) 1))
 
 pub charLen3-none : (a b : ℕ) (s : List ℕ) → length s < 1 → 0 ≡ charLen3 a b s
 charLen3-none a b [] h = refl
@@ -51,7 +48,7 @@ charLen3-here a b (c ∷ s) r h p q = rw (sym p ∙ q)
 
 pub charLen3-next : (a b : ℕ) (s : List ℕ) (r : Bool) (n : ℕ) → 1 ≤ length s → r ≡ three a b (getD s 0 0) → r ≡ false → n ≡ charLen4 a b (getD s 0 0) (take (length s - 1) (drop 1 s)) → n ≡ charLen3 a b s
 charLen3-next a b [] r n h p q e = absurd (omega arith)
-charLen3-next a b (c ∷ s) r n h p q e = rw (sym p ∙ q) (e ∙ simp (rest 1))
+charLen3-next a b (c ∷ s) r n h p q e = rw (sym p ∙ q) (e ∙ rw (part-from (c ∷ s) 1))
 
 pub charLen4-none : (a b c : ℕ) (s : List ℕ) → length s < 1 → 0 ≡ charLen4 a b c s
 charLen4-none a b c [] h = refl

@@ -12,7 +12,7 @@ use Rattle.utf8.specs.Rfc3629.Utf8-char.{utf8-1, utf8-2, utf8-3-E0, utf8
 use Rattle.utf8.specs.Reading.{read}
 use Rattle.utf8.specs.Inside.{charLen, frontNumber}
 use Rattle.utf8.specs.Plain.{allowed, allAllowed, plain}
-use Rattle.utf8.proofs.Front.{rest}
+use Rattle.octets.proofs.Parts.{part-from}
 use Rattle.utf8.proofs.Reading.{read-stop, read-go}
 use Rattle.utf8.proofs.Grammar.{read-char, front}
 
@@ -93,7 +93,7 @@ module _ (s : List ℕ) (at n : ℕ) (h : at < length s) (i : plain s ≡ plain 
 
   turn : (n ≡ 0 → ⊥) → plain s ≡ (allowed (frontNumber (take (length s - at) (drop at s))) && plain (drop (at + n) s))
   unfolding plain
-  turn z = i ∙ ap allAllowed (read-go s at n h e z) ∙ rw (rest at s)
+  turn z = i ∙ ap allAllowed (read-go s at n h e z) ∙ rw (part-from s at)
 
   pub plain-bad : (r : Bool) → (n ≡ 0 → ⊥) → r ≡ allowed (frontNumber (take (length s - at) (drop at s))) → not r ≡ true → false ≡ plain s
   plain-bad r z p q = sym (turn z ∙ rw (sym p ∙ not-true r q))

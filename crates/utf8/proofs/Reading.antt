@@ -14,7 +14,8 @@ use Rattle.utf8.specs.Rfc3629.{number}
 use Rattle.utf8.specs.Reading.{one, two, three, four, Reading, read, read1, read2, read3, ends, utf8}
 use Rattle.utf8.specs.Inside.{charLen, charLen2, charLen3, charLen4, frontNumber}
 use Rattle.utf8.specs.Reading.Reading.{bad, char}
-use Rattle.utf8.proofs.Front.{rest, charLen-fits}
+use Rattle.octets.proofs.Parts.{part-from}
+use Rattle.utf8.proofs.Front.{charLen-fits}
 
 -- the reading where the character at the front has n bytes
 abbrev next : ℕ → List ℕ → Reading
@@ -60,7 +61,7 @@ read-next (a ∷ s) h = by1 a s (one a)
 
 module _ (s : List ℕ) (at n : ℕ) (h : at < length s) (e : n ≡ charLen (take (length s - at) (drop at s))) where
   pub here : n ≡ charLen (drop at s)
-  here = e ∙ ap charLen (rest at s)
+  here = e ∙ ap charLen (part-from s at)
 
   pub fits : at + n ≤ length s
   fits = omega (arith, here, charLen-fits (drop at s), length-drop at s)
@@ -115,4 +116,4 @@ module _ (s : List ℕ) (h : 8 ≤ length s) where
       p0 .1 ∙ p1 .1 ∙ p2 .1 ∙ p3 .1 ∙ p4 .1 ∙ p5 .1 ∙ p6 .1 ∙ p7 .1
 
 pub eight-go : (s : List ℕ) (at : ℕ) (r : Bool) → utf8 s ≡ utf8 (drop at s) → (r ≡ true → utf8 (take (length s - at) (drop at s)) ≡ utf8 (drop 8 (take (length s - at) (drop at s)))) → not r ≡ false → utf8 s ≡ utf8 (drop (at + 8) s)
-eight-go s at r i f e = i ∙ simp (rest at s) at (f (not-false r e)) ∙ simp drop-drop
+eight-go s at r i f e = i ∙ simp (part-from s at) at (f (not-false r e)) ∙ simp drop-drop

@@ -11,14 +11,17 @@ abbrev pub charLen4 : ℕ → ℕ → ℕ → List ℕ → ℕ
 charLen4 a b c [] = 0
 charLen4 a b c (d ∷ s) = cond (four a b c d) 4 0
 
+-- by its first two bytes and the rest
 abbrev pub charLen3 : ℕ → ℕ → List ℕ → ℕ
 charLen3 a b [] = 0
 charLen3 a b (c ∷ s) = cond (three a b c) 3 (charLen4 a b c s)
 
+-- by its first byte and the rest
 abbrev pub charLen2 : ℕ → List ℕ → ℕ
 charLen2 a [] = 0
 charLen2 a (b ∷ s) = cond (two a b) 2 (charLen3 a b s)
 
+-- by the bytes
 abbrev pub charLen : List ℕ → ℕ
 charLen [] = 0
 charLen (a ∷ s) = cond (one a) 1 (charLen2 a s)

@@ -8,6 +8,7 @@ use Rattle.utf8.specs.Rfc3629.{number}
 
 -- %xlo-hi
 infix 40 _from_to_
+-- RFC 3629, section 4: a number between two others, both counted
 abbrev pub _from_to_ : ℕ → ℕ → ℕ → Bool
 b from lo to hi = leb lo b && leb b hi
 

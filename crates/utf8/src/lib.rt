@@ -2,7 +2,7 @@
 ghost use mathlib.Core.Path.{_≡_};
 ghost use mathlib.Core.Bool.{true};
 ghost use Prim.Native.Nat.{_≤_};
-ghost use lib.ListN.{length, getD, drop};
+ghost use lib.ListN.{length, drop};
 ghost use Rattle.utf8.specs.Reading.{one, two, three, four, utf8};
 ghost use Rattle.utf8.specs.Inside.{charLen, charLen2, charLen3, charLen4, frontNumber};
 ghost use Rattle.utf8.specs.Plain.{allowed, plain};
@@ -134,23 +134,13 @@ pub fn is_utf8(bytes: &[u8]) -> bool
     true
 }
 
-// The byte at a place, 0 past the end.
-fn byte_at(s: &[u8], at: usize) -> u8
-    ensures { λ r. ⌜ r ≡ getD (now (s .entry)) at 0 ⌝ }
-{
-    if at < s.len() {
-        return s[at];
-    }
-    0
-}
-
 // Whether the character at the front is allowed: its first two bytes tell. U+0080..U+009F are C2 80 to C2 9F.
 fn is_front_allowed(s: &[u8]) -> bool
     requires { ⌜ (charLen (now s) ≡ 0 → ⊥) ⌝ }
     ensures { λ r. ⌜ r ≡ allowed (frontNumber (now (s .entry))) ⌝ }
 {
-    let a = byte_at(s, 0);
-    let b = byte_at(s, 1);
+    let a = octets::byte_at(s, 0);
+    let b = octets::byte_at(s, 1);
     (0x20 <= a) & (a != 0x2F) & (a != 0x7F) & !((a == 0xC2) & (b <= 0x9F))
 }
 

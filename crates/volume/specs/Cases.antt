@@ -7,6 +7,7 @@ use lib.Dec.{eqb}
 use Rattle.error.specs.Demand.{allTrue}
 use Rattle.volume.specs.Blocks.{isNonreservedBlock, isBankRoot, isBankBlock, isRootSlot}
 
+-- section 2: slots, bank roots and bank blocks at B = 1,024
 unfoldable pub cases : List Bool
 cases =
     -- B = 1,024: 767 is a slot, 768 isn't
@@ -19,13 +20,15 @@ cases =
     ∷ not (isBankBlock 992 1024)
     ∷ []
 
--- B = 1,024 has no non-reserved block; B = 1,025 has 512 only
+-- section 2: B = 1,024 has no non-reserved block
 abbrev pub NoneAt1024 : Type 0
 NoneAt1024 = (block : ℕ) → isNonreservedBlock block 1024 ≡ false
 
+-- section 2: B = 1,025, block 512 alone is non-reserved
 abbrev pub Only512At1025 : Type 0
 Only512At1025 = (block : ℕ) → isNonreservedBlock block 1025 ≡ eqb block 512
 
+-- section 2: these, and which blocks are non-reserved at B = 1,024 and 1,025
 pub record CasesHold : Type 0 where
   pub computed : allTrue cases ≡ true
   pub none : NoneAt1024

@@ -8,6 +8,7 @@ use Rattle.error.specs.Reason as reason
 use Rattle.volume.specs.Numbers.{largest, sumFits}
 use Rattle.volume.specs.declared.GroupBlocks.{GroupBlocks}
 
+-- the blocks of a group
 abbrev pub allocationGroupBlocks : ℕ
 allocationGroupBlocks = 16384
 
@@ -24,6 +25,7 @@ allocationGroupCount blocks =
 abbrev pub groupStart : ℕ → ℕ
 groupStart group = min (group * allocationGroupBlocks) largest
 
+-- one past its last block, as far as 64 bits go
 abbrev pub groupEnd : ℕ → ℕ
 groupEnd group = min (groupStart group + allocationGroupBlocks) largest
 

@@ -44,6 +44,7 @@ treeRefDemands reference blocks mode =
     ∷ (not (eqb (reference .generation) 0) && isNonreservedBlock (reference .block) blocks) otherwise violationOf mode reason.invalidTreeReference
     ∷ []
 
+-- section 2: the first that fails answers
 unfoldable pub validateTreeRef : TreeRef → ℕ → Validation → Check
 validateTreeRef reference blocks mode = demands (treeRefDemands reference blocks mode)
 
@@ -54,6 +55,7 @@ workspaceRefDemands reference blocks mode =
     ∷ (not (eqb (reference .generation) 0) && isBankBlock (reference .block) blocks) otherwise violationOf mode reason.invalidWorkspacePageReference
     ∷ []
 
+-- section 2: the first that fails answers
 unfoldable pub validateWorkspaceRef : TreeRef → ℕ → Validation → Check
 validateWorkspaceRef reference blocks mode = demands (workspaceRefDemands reference blocks mode)
 
@@ -71,6 +73,7 @@ rootSlotDemands slot blocks mode =
     ∷ isRootSlot slot blocks otherwise violationOf mode reason.invalidRootSlot
     ∷ []
 
+-- section 2: the first that fails answers
 unfoldable pub validateRootSlot : ℕ → ℕ → Validation → Check
 validateRootSlot slot blocks mode = demands (rootSlotDemands slot blocks mode)
 

@@ -11,8 +11,7 @@ use lib.Dec.{eqb}
 use lib.ListN.{length, take, drop, set, length-drop, length-set}
 use lib.Seq.{drop-drop, take-suc-set}
 use Rattle.octets.specs.Number.{field, u16At, u64At}
-use Rattle.lookup.specs.Record.{keyLen, valueLen, split, isRecord, sizeOf}
-use Rattle.lookup.specs.Floor.{next}
+use Rattle.lookup.specs.Record.{keyLen, valueLen, splitRecord, isRecord, sizeOf}
 use Rattle.lookup.specs.Sorted.{offsetOf}
 use Rattle.octets.proofs.Parts.{field-from}
 use Rattle.lookup.proofs.RecordLaws.{record-is, split-fits}
@@ -21,7 +20,7 @@ use Rattle.walk.specs.Inside.{storedBlock, storedBlocks, Kept}
 use Rattle.walk.proofs.Joins.{among-more}
 
 -- the whole record at a place, by the numbers that stand there
-module _ (s : List ℕ) (p : ℕ) (whole : isRecord (split (drop p s)) ≡ true) where
+module _ (s : List ℕ) (p : ℕ) (whole : isRecord (splitRecord (drop p s)) ≡ true) where
   pub lengths-at : (keyLen (drop p s) ≡ u16At s p) × (valueLen (drop p s) ≡ u16At s (p + 2))
   unfolding field
   lengths-at = (refl, rw (drop-drop 2 p s))
@@ -30,26 +29,22 @@ module _ (s : List ℕ) (p : ℕ) (whole : isRecord (split (drop p s)) ≡ true)
   whole-within =
       omega (arith, split-fits (drop p s) (keyLen (drop p s)) (valueLen (drop p s)) (record-is (drop p s) whole), length-drop p s, lengths-at .0, lengths-at .1)
 
-  pub size-at : p + sizeOf (split (drop p s)) ≡ p + 4 + u16At s p + u16At s (p + 2)
+  size-at : p + sizeOf (splitRecord (drop p s)) ≡ p + 4 + u16At s p + u16At s (p + 2)
   size-at = rw (record-is (drop p s) whole) (omega (arith, lengths-at .0, lengths-at .1))
 
-  pub block-at : storedBlock (drop p s) ≡ u64At s (p + 4 + u16At s p)
+  block-at : storedBlock (drop p s) ≡ u64At s (p + 4 + u16At s p)
   block-at = field-from s p (4 + keyLen (drop p s)) 8 ∙ ap (λ (o : ℕ). u64At s o) (omega (arith, lengths-at .0))
 
 -- one record more
 module _ (rest : List ℕ) (i p : ℕ) (here : p ≡ offsetOf rest i) where
-  pub offset-more : isRecord (split (drop p rest)) ≡ true → p + 4 + u16At rest p + u16At rest (p + 2) ≡ offsetOf rest (i + 1)
+  pub offset-more : isRecord (splitRecord (drop p rest)) ≡ true → p + 4 + u16At rest p + u16At rest (p + 2) ≡ offsetOf rest (i + 1)
   unfolding offsetOf
   offset-more w = rw (add-one i, ← here) (sym (size-at rest p w))
 
-  pub stored-more : (block : ℕ) (hit : Bool) → isRecord (split (drop p rest)) ≡ true → hit ≡ among block (storedBlocks rest i)
+  pub stored-more : (block : ℕ) (hit : Bool) → isRecord (splitRecord (drop p rest)) ≡ true → hit ≡ among block (storedBlocks rest i)
       → (hit || eqb (u64At rest (p + 4 + u16At rest p)) block) ≡ among block (storedBlocks rest (i + 1))
   unfolding storedBlocks
   stored-more block hit w e = rw (add-one i, storedBlocks, ← here, e, ← block-at rest p w) (sym (among-more block (storedBlock (drop p rest)) (storedBlocks rest i)))
-
-pub offset-suc : (rest : List ℕ) (i : ℕ) → offsetOf rest (suc i) ≡ next rest (offsetOf rest i)
-unfolding offsetOf
-offset-suc rest i = refl
 
 pub stored-suc : (rest : List ℕ) (i : ℕ) → storedBlocks rest (suc i) ≡ storedBlocks rest i ++ (storedBlock (drop (offsetOf rest i) rest) ∷ [])
 unfolding storedBlocks
@@ -60,14 +55,14 @@ pub kept-start : (seen rest : List ℕ) → length seen ≡ 192 → Kept seen re
 unfolding storedBlocks
 kept-start seen rest e = record { room = e; whole = λ j l. absurd (omega arith); front = λ l. refl }
 
-pub kept-more : (seen rest : List ℕ) (i b : ℕ) → Kept seen rest i → isRecord (split (drop (offsetOf rest i) rest)) ≡ true → b ≡ storedBlock (drop (offsetOf rest i) rest) → Kept (set seen (i % 192) b) rest (i + 1)
+pub kept-more : (seen rest : List ℕ) (i b : ℕ) → Kept seen rest i → isRecord (splitRecord (drop (offsetOf rest i) rest)) ≡ true → b ≡ storedBlock (drop (offsetOf rest i) rest) → Kept (set seen (i % 192) b) rest (i + 1)
 kept-more seen rest i b k w e = record {
   room = length-set seen (i % 192) b ∙ k .room;
   whole = λ j l. go j l (decLt j i);
   front = front;
 }
   where
-    go : (j : ℕ) → j < i + 1 → Dec (j < i) → isRecord (split (drop (offsetOf rest j) rest)) ≡ true
+    go : (j : ℕ) → j < i + 1 → Dec (j < i) → isRecord (splitRecord (drop (offsetOf rest j) rest)) ≡ true
     go j l (yes h) = k .whole j h
     go j l (no h) = let f : j ≡ i = omega arith in rw f w
 

@@ -1,5 +1,5 @@
 -- The form of a record, by the tests that the code makes: what `search` goes by beside `chain`.
-use mathlib.Core.Path.{_≡_, refl, sym, ap, _∙_}
+use mathlib.Core.Path.{_≡_, sym, ap, _∙_}
 use mathlib.Core.Bool.{Bool, true, false, not}
 use mathlib.Core.List.{List}
 use Prim.Native.Nat.{ℕ, _+_, _-_, _≤_, _<_}
@@ -14,8 +14,6 @@ use Rattle.error.proofs.Exactly.{outcome-holds}
 use Rattle.error.proofs.Chain.{chain}
 use Rattle.octets.specs.Bytes.{part}
 use Rattle.octets.specs.Order.{order, isLess, isGreater}
-use Rattle.octets.specs.declared.Order.{Order}
-use Rattle.octets.specs.declared.Order.the-variants.{Less, Equal, Greater}
 use Rattle.octets.proofs.OrderLaws.{order-mirror}
 use Rattle.lookup.specs.Record.{keyLen, valueLen, keyOf}
 use Rattle.walk.specs.Records.{formDemands}
@@ -40,10 +38,6 @@ pub size-within : {a b k v m : ℕ} → 4 + a + b ≤ m → a ≡ k → b ≡ v 
 size-within {a} {b} {k} {v} {m} h p q = le-leb (4 + k + v) m (omega arith)
 
 -- the key above the one before it, from the comparison of the key that was cut out
-pub less-of : (o : Order) → isLess o ≡ true → o ≡ Less
-less-of Less e = refl
-less-of Equal e = cc
-less-of Greater e = cc
 
 module _ (s previous : List ℕ) (k : ℕ) (t : Bool) where
   key-cut : k ≡ keyLen s → t ≡ isGreater (order (part s 4 (4 + k - 4)) previous) → t ≡ isLess (order previous (keyOf s))

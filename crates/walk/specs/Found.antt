@@ -4,10 +4,11 @@ use mathlib.Core.Bool.{cond}
 use mathlib.Core.List.{List}
 use lib.ListN.{length, drop}
 use Rattle.octets.specs.Bytes.{part}
-use Rattle.lookup.specs.Floor.{answerAt, stepOf}
+use Rattle.lookup.specs.Floor.{floorAnswer, nextRecord}
 use Rattle.lookup.specs.declared.Answer.{Answer}
 use Rattle.lookup.specs.declared.Step.{Step}
 
+-- no record, or one with this key and value
 pub data Finding : Type 0 where
   nothing : Finding
   found : (key value : List ℕ) → Finding
@@ -21,7 +22,7 @@ stepFound rest s =
 
 -- the first of so many records at the front of `rest`
 abbrev pub firstOf : List ℕ → ℕ → Finding
-firstOf rest remaining = stepFound rest (stepOf rest remaining)
+firstOf rest remaining = stepFound rest (nextRecord rest remaining)
 
 -- the first of the records that a lookup answers
 abbrev pub answerFound : List ℕ → Answer → Finding
@@ -29,4 +30,4 @@ answerFound payload a = firstOf (drop (a .from) payload) (a .remaining)
 
 -- the lookup of a key in a payload of so many records, by a scratch
 abbrev pub lookupIn : List ℕ → ℕ → List ℕ → List ℕ → Finding
-lookupIn payload count key scratch = answerFound payload (answerAt payload count key (length scratch))
+lookupIn payload count key scratch = answerFound payload (floorAnswer payload count key (length scratch))

@@ -5,11 +5,10 @@ use mathlib.Core.Bool.{Bool, true, cond}
 use mathlib.Core.List.{List, [], _∷_, _++_}
 use lib.ListN.{length, take, drop}
 use Rattle.error.specs.declared.Validation.{Validation}
-use Rattle.error.specs.declared.Check.the-variants.{Passed}
-use Rattle.error.specs.Answer.{numberCheck, numberOf}
+use Rattle.error.specs.Answer.{numberOf}
 use Rattle.error.specs.Demand.{outcome}
 use Rattle.octets.specs.Number.{u64At}
-use Rattle.lookup.specs.Record.{keyLen, valueLen, split, isRecord}
+use Rattle.lookup.specs.Record.{keyLen, valueLen, splitRecord, isRecord}
 use Rattle.lookup.specs.Sorted.{offsetOf}
 use Rattle.walk.specs.Records.{Own, formDemands, ownAnswer, joinDemands, recordDemands}
 use Rattle.walk.specs.declared.Form.{Form}
@@ -25,9 +24,11 @@ formOf rest left previous mode = outcome (formDemands rest left previous mode) F
 abbrev pub joined : Bool → ℕ → ℕ → ℕ
 joined leaf total n = cond leaf (total + n) n
 
+-- that number with the lengths k and v of a record, where it fits those of the earlier records
 unfoldable pub joinOf : Bool → ℕ → ℕ → ℕ → List ℕ → ℕ → Validation → Turn
 joinOf leaf k v total seen n mode = outcome (joinDemands leaf total seen n mode) Turn.Refused (Turn.Passed k v (joined leaf total n))
 
+-- all checks of a record
 unfoldable pub turnOf : Bool → Validation → Own → List ℕ → ℕ → List ℕ → ℕ → List ℕ → Turn
 turnOf leaf mode own rest left previous total seen =
     outcome (recordDemands leaf mode own rest left previous total seen) Turn.Refused
@@ -44,13 +45,9 @@ unfoldable pub storedBlocks : List ℕ → ℕ → List ℕ
 storedBlocks rest zero = []
 storedBlocks rest (suc n) = storedBlocks rest n ++ (storedBlock (drop (offsetOf rest n) rest) ∷ [])
 
--- what the rules of a child's record ask for: a value of 16 bytes, and the number that they answer is the block at its front
-abbrev pub Sixteen : Own → Type 0
-Sixteen own = (key value : List ℕ) → numberCheck (own key value) ≡ Passed → (length value ≡ 16) × (numberOf (own key value) ≡ u64At value 0)
-
 -- the first n records are whole
 abbrev pub Whole : List ℕ → ℕ → Type 0
-Whole rest n = (j : ℕ) → j < n → isRecord (split (drop (offsetOf rest j) rest)) ≡ true
+Whole rest n = (j : ℕ) → j < n → isRecord (splitRecord (drop (offsetOf rest j) rest)) ≡ true
 
 -- the array of blocks seen so far holds those of the first n records, as long as there is room
 pub record Kept (seen rest : List ℕ) (n : ℕ) : Type 0 where

@@ -1,5 +1,4 @@
 pub mod Records
 pub mod Entries
 pub mod Found
-pub mod Agree
 pub mod Inside

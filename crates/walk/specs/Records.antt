@@ -16,8 +16,7 @@ use Rattle.octets.specs.Number.{within}
 use Rattle.octets.specs.Order.{order, isLess}
 use Rattle.volume.specs.Numbers.{sumFits}
 use Rattle.lookup.specs.Record.{keyLen, recordLen, keyOf, valueOf}
-use Rattle.record.specs.declared.Child.{Child}
-use Rattle.record.specs.Internal.{validateInternalRecord}
+use Rattle.record.specs.Internal.{validateInternalRecord, childBlock}
 use Rattle.record.specs.Leaf.{validateLeafRecord}
 use Rattle.walk.specs.declared.RecordValidation.{RecordValidation}
 
@@ -35,6 +34,7 @@ formDemands rest left previous mode =
     ∷ isLess (order previous (keyOf rest)) otherwise violationOf mode reason.recordKeysAreNotIncreasing
     ∷ []
 
+-- these tests as one check
 unfoldable pub formCheck : List ℕ → ℕ → List ℕ → Validation → Check
 formCheck rest left previous mode = demands (formDemands rest left previous mode)
 
@@ -43,13 +43,11 @@ formCheck rest left previous mode = demands (formDemands rest left previous mode
 abbrev pub Own : Type 0
 Own = List ℕ → List ℕ → Number
 
+-- those of a leaf's record
 abbrev pub leafRules : RecordValidation → Own
 leafRules c key value = validateLeafRecord (c .kind) key value (c .blocks) (c .«page_generation») (c .mode)
 
-abbrev pub childBlock : Child → Number
-childBlock (Child.Reference r) = Number.Value (r .block)
-childBlock (Child.Refused e) = Number.Refused e
-
+-- those of an internal page's record
 abbrev pub childRules : RecordValidation → Own
 childRules c key value = childBlock (validateInternalRecord (c .kind) key value (c .blocks) (c .«page_generation») (c .mode))
 
@@ -69,6 +67,7 @@ joinDemands leaf total seen n mode =
     (sumFits total n otherwise violationOf mode reason.leafDataBlockTotalOverflow ∷ [])
     (not (among n seen) otherwise violationOf mode reason.internalChildrenShareABlock ∷ [])
 
+-- this test as a check
 unfoldable pub joinCheck : Bool → ℕ → List ℕ → ℕ → Validation → Check
 joinCheck leaf total seen n mode = demands (joinDemands leaf total seen n mode)
 
@@ -82,9 +81,11 @@ recordDemands leaf mode own rest left previous total seen =
 
 -- ---- the walk
 
+-- after a record with this number: the total, and the children's blocks
 abbrev pub nextTotal : Bool → ℕ → ℕ → ℕ
 nextTotal leaf total n = cond leaf (total + n) total
 
+-- the children's blocks so far, with this one; a leaf has none
 abbrev pub nextBlocks : Bool → List ℕ → ℕ → List ℕ
 nextBlocks leaf seen n = cond leaf seen (seen ++ (n ∷ []))
 
@@ -98,24 +99,26 @@ walk leaf mode own (suc n) rest left previous total seen =
     (walk leaf mode own n (drop (recordLen rest) rest) (left - recordLen rest) (keyOf rest)
     (nextTotal leaf total (numberOf (ownAnswer own rest))) (nextBlocks leaf seen (numberOf (ownAnswer own rest))))
 
--- the count is tested against the payload's length, and that against the bytes; then the records
+-- the count is tested against the payload's length, and that against the bytes
 abbrev pub sizeDemands : List ℕ → ℕ → ℕ → Validation → List Demand
-sizeDemands rest payload count mode =
-    leb count (payload / 4) otherwise violationOf mode reason.recordCountExceedsPayload
-    ∷ leb payload (length rest) otherwise violationOf mode reason.payloadRange
+sizeDemands rest payloadLength count mode =
+    leb count (payloadLength / 4) otherwise violationOf mode reason.recordCountExceedsPayload
+    ∷ leb payloadLength (length rest) otherwise violationOf mode reason.payloadRange
     ∷ []
 
+-- these tests, and then the walk from the first record on
 unfoldable pub records : Bool → Validation → Own → List ℕ → ℕ → ℕ → Number
-records leaf mode own rest payload count =
-    outcome (sizeDemands rest payload count mode) Number.Refused (walk leaf mode own count rest payload [] 0 [])
+records leaf mode own rest payloadLength count =
+    outcome (sizeDemands rest payloadLength count mode) Number.Refused (walk leaf mode own count rest payloadLength [] 0 [])
 
 -- page kind 1 is a leaf, every other is internal; an internal page's total is 0
 abbrev pub isLeaf : RecordValidation → Bool
 isLeaf c = eqb (c .«page_kind») 1
 
+-- the rules of the page's records
 abbrev pub ownRules : RecordValidation → Own
 ownRules c = cond (isLeaf c) (leafRules c) (childRules c)
 
 -- `rest` is the block from byte 80 on
 unfoldable pub validateRecords : List ℕ → ℕ → ℕ → RecordValidation → Number
-validateRecords rest payload count c = records (isLeaf c) (c .mode) (ownRules c) rest payload count
+validateRecords rest payloadLength count c = records (isLeaf c) (c .mode) (ownRules c) rest payloadLength count

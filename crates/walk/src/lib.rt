@@ -28,13 +28,9 @@ enum Form {
     Refused(Error),
 }
 
-// What one turn of the walk gives: the lengths, and a leaf's total so far or a child's block; or a refusal.
+// What one turn of the walk gives: the lengths of the record's key and value, and a leaf's total so far or a child's block; or a refusal.
 enum Turn {
-    Passed {
-        key_len: usize,
-        value_len: usize,
-        number: u64,
-    },
+    Passed(usize, usize, u64),
     Refused(Error),
 }
 
@@ -121,11 +117,7 @@ fn join_leaf(key_len: usize, value_len: usize, total: u64, number: u64, mode: Va
         return Turn::Refused(error::violation(mode, reason::LEAF_DATA_BLOCK_TOTAL_OVERFLOW));
     }
     let number = total + number;
-    Turn::Passed {
-        key_len,
-        value_len,
-        number,
-    }
+    Turn::Passed(key_len, value_len, number)
 }
 
 // One turn in a leaf: all checks of the record at the front.
@@ -177,11 +169,7 @@ fn join_child(
     if is_shared(seen, all, n, number) {
         return Turn::Refused(error::violation(mode, reason::INTERNAL_CHILDREN_SHARE_A_BLOCK));
     }
-    Turn::Passed {
-        key_len,
-        value_len,
-        number,
-    }
+    Turn::Passed(key_len, value_len, number)
 }
 
 // One turn in an internal page.
@@ -222,9 +210,9 @@ fn check_child(
 }
 
 // The walk over a leaf's records: the answer is the total of their counts.
-fn walk_leaf(rest: &[u8], payload: usize, count: usize, context: RecordValidation) -> Number
-    requires { ⌜ payload ≤ length (now rest) ⌝ }
-    ensures { λ r. ⌜ r ≡ walk true (context .mode) (leafRules context) count (now (rest .entry)) payload [] 0 [] ⌝ }
+fn walk_leaf(rest: &[u8], payload_length: usize, count: usize, context: RecordValidation) -> Number
+    requires { ⌜ «payload_length» ≤ length (now rest) ⌝ }
+    ensures { λ r. ⌜ r ≡ walk true (context .mode) (leafRules context) count (now (rest .entry)) «payload_length» [] 0 [] ⌝ }
 {
     let mode = context.mode;
     let mut total: u64 = 0;
@@ -233,18 +221,10 @@ fn walk_leaf(rest: &[u8], payload: usize, count: usize, context: RecordValidatio
     let mut key_end = 0;
     let mut i = 0;
     while i < count {
-        match check_leaf(
-            &rest[position..],
-            payload - position,
-            &rest[key_start..key_end],
-            total,
-            context,
-        ) {
-            Turn::Passed {
-                key_len,
-                value_len,
-                number,
-            } => {
+        let here = &rest[position..];
+        let previous = &rest[key_start..key_end];
+        match check_leaf(here, payload_length - position, previous, total, context) {
+            Turn::Passed(key_len, value_len, number) => {
                 total = number;
                 key_start = position + 4;
                 key_end = key_start + key_len;
@@ -256,7 +236,7 @@ fn walk_leaf(rest: &[u8], payload: usize, count: usize, context: RecordValidatio
             }
         }
     }
-    if position != payload {
+    if position != payload_length {
         return Number::Refused(error::violation(mode, reason::PAYLOAD_HAS_UNCONSUMED_BYTES));
     }
     Number::Value(total)
@@ -264,9 +244,14 @@ fn walk_leaf(rest: &[u8], payload: usize, count: usize, context: RecordValidatio
 
 // The walk over an internal page's records. The children's blocks so far stand in `seen`: of a page's payload, whose children take 28
 // bytes or more, it has room for all.
-fn walk_children(rest: &[u8], payload: usize, count: usize, context: RecordValidation) -> Number
-    requires { ⌜ payload ≤ length (now rest) ⌝ }
-    ensures { λ r. ⌜ r ≡ walk false (context .mode) (childRules context) count (now (rest .entry)) payload [] 0 [] ⌝ }
+fn walk_children(
+    rest: &[u8],
+    payload_length: usize,
+    count: usize,
+    context: RecordValidation,
+) -> Number
+    requires { ⌜ «payload_length» ≤ length (now rest) ⌝ }
+    ensures { λ r. ⌜ r ≡ walk false (context .mode) (childRules context) count (now (rest .entry)) «payload_length» [] 0 [] ⌝ }
 {
     let mode = context.mode;
     let mut seen = [0u64; 192];
@@ -275,20 +260,10 @@ fn walk_children(rest: &[u8], payload: usize, count: usize, context: RecordValid
     let mut key_end = 0;
     let mut n = 0;
     while n < count {
-        match check_child(
-            &rest[at..],
-            payload - at,
-            &rest[key_start..key_end],
-            &seen,
-            rest,
-            n,
-            context,
-        ) {
-            Turn::Passed {
-                key_len,
-                value_len,
-                number,
-            } => {
+        let here = &rest[at..];
+        let previous = &rest[key_start..key_end];
+        match check_child(here, payload_length - at, previous, &seen, rest, n, context) {
+            Turn::Passed(key_len, value_len, number) => {
                 let slot = n % 192;
                 seen[slot] = number;
                 key_start = at + 4;
@@ -301,7 +276,7 @@ fn walk_children(rest: &[u8], payload: usize, count: usize, context: RecordValid
             }
         }
     }
-    if at != payload {
+    if at != payload_length {
         return Number::Refused(error::violation(mode, reason::PAYLOAD_HAS_UNCONSUMED_BYTES));
     }
     Number::Value(0)
@@ -310,21 +285,21 @@ fn walk_children(rest: &[u8], payload: usize, count: usize, context: RecordValid
 // The records of a payload, and a leaf's total; an internal page's is 0.
 pub fn validate_records(
     rest: &[u8],
-    payload: usize,
+    payload_length: usize,
     count: usize,
     context: RecordValidation,
 ) -> Number
-    ensures { λ r. ⌜ r ≡ validateRecords (now (rest .entry)) payload count context ⌝ }
+    ensures { λ r. ⌜ r ≡ validateRecords (now (rest .entry)) «payload_length» count context ⌝ }
 {
     let mode = context.mode;
-    if payload / 4 < count {
+    if payload_length / 4 < count {
         return Number::Refused(error::violation(mode, reason::RECORD_COUNT_EXCEEDS_PAYLOAD));
     }
-    if rest.len() < payload {
+    if rest.len() < payload_length {
         return Number::Refused(error::violation(mode, reason::PAYLOAD_RANGE));
     }
     if context.page_kind == 1 {
-        return walk_leaf(rest, payload, count, context);
+        return walk_leaf(rest, payload_length, count, context);
     }
-    walk_children(rest, payload, count, context)
+    walk_children(rest, payload_length, count, context)
 }

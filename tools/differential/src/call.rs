@@ -77,6 +77,7 @@ use Num::{Any, Byte, Entries, Flag, Kind, Short, Word, Zeros};
 const ONE: &[Text] = &[Text::Any];
 const TWO: &[Text] = &[Text::Any, Text::Any];
 const UUID_AND_ONE: &[Text] = &[Text::Fixed(16), Text::Any];
+const UUID_AND_TWO: &[Text] = &[Text::Fixed(16), Text::Any, Text::Any];
 #[rustfmt::skip]
 const ROOTS: &[Num] = &[
     Flag, Flag, Byte, Any, Any, Any, Any, Any, Any, Any, Any, Any, Any, Any, Any, Any, Any,
@@ -129,6 +130,7 @@ pub const SHAPES: &[Shape] = &[
     shape(40, "next record", &[Any], ONE),
     shape(41, "select_root", ROOTS, ROOT_TEXTS),
     shape(42, "validate_records", &[Kind, Byte, Any, Any, Flag, Any, Any], ONE),
+    shape(43, "hand_out", &[Any, Any, Kind, Any, Byte, Any, Entries], UUID_AND_TWO),
 ];
 
 pub fn shape_of(no: u8) -> Option<&'static Shape> {
@@ -216,9 +218,9 @@ mod tests {
             assert_eq!(usize::from(shape.no), place + 1);
             assert!(shape.numbers.len() <= 34 && shape.texts.len() <= 4);
         }
-        assert_eq!(SHAPES.len(), 42);
+        assert_eq!(SHAPES.len(), 43);
         assert_eq!(ROOTS.len(), 34);
-        assert!(shape_of(0).is_none() && shape_of(43).is_none());
+        assert!(shape_of(0).is_none() && shape_of(44).is_none());
     }
 
     #[test]

@@ -16,7 +16,7 @@ const WEIGHTS: &[(u8, u64)] = &[
     (12, 4), (13, 4), (14, 4), (15, 4), (16, 3), (17, 5), (18, 5), (19, 4), (20, 4), (21, 3),
     (22, 5), (23, 10), (24, 8), (25, 10), (26, 8), (27, 20), (28, 14), (29, 8), (30, 6), (31, 4),
     (32, 2), (33, 5), (34, 8), (35, 4), (36, 24), (37, 5), (38, 3), (39, 16), (40, 6), (41, 5),
-    (42, 20),
+    (42, 20), (43, 12),
 ];
 
 pub fn any_call(r: &mut Random) -> Call {
@@ -336,6 +336,7 @@ fn page_call(r: &mut Random, no: u8) -> Call {
         38 => Call::new(38, &[], &[&pages::view(r).page]),
         39 => lookups::floor(r),
         40 => lookups::next(r),
+        43 => lookups::handed(r),
         _ => lookups::walk(r),
     }
 }
@@ -346,7 +347,7 @@ pub fn call(r: &mut Random, no: u8) -> Call {
         12..=21 => volume_call(r, no),
         22..=32 => record_call(r, no),
         33..=35 | 41 => root_call(r, no),
-        36..=40 | 42 => page_call(r, no),
+        36..=40 | 42 | 43 => page_call(r, no),
         _ => panic!("no call {no}"),
     }
 }

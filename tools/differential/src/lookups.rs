@@ -82,6 +82,28 @@ fn payload(r: &mut Random) -> (Vec<Record>, Vec<u8>) {
     (records, bytes)
 }
 
+/// How many entries a scratch has: at and beside the count, or few or many.
+fn scratch(r: &mut Random, count: u64) -> u64 {
+    let entries = match r.below(8) {
+        0 => 0,
+        1 => count.saturating_sub(1),
+        2 => count.saturating_add(1),
+        3 => count.saturating_add(r.below(20)),
+        4 => r.below(20),
+        5 if r.once_in(20) => r.pick(&[4_095, 4_096]),
+        _ => count,
+    };
+    if entries > 4_096 { r.below(9) } else { entries }
+}
+
+/// A lookup on the view of a page that is validated first, mostly a good one.
+pub fn handed(r: &mut Random) -> Call {
+    let case = if r.once_in(4) { pages::any(r) } else { pages::good(r) };
+    let key = sought(r, &case.records);
+    let entries = scratch(r, case.records.len() as u64);
+    case.handed_call(key, entries)
+}
+
 /// `floor_record`.
 pub fn floor(r: &mut Random) -> Call {
     let (records, mut bytes) = payload(r);
@@ -97,16 +119,7 @@ pub fn floor(r: &mut Random) -> Call {
         3 if r.once_in(8) => numbers::any(r),
         _ => len,
     };
-    let entries = match r.below(8) {
-        0 => 0,
-        1 => count.saturating_sub(1),
-        2 => count.saturating_add(1),
-        3 => count.saturating_add(r.below(20)),
-        4 => r.below(20),
-        5 if r.once_in(20) => r.pick(&[4_095, 4_096]),
-        _ => count,
-    };
-    let entries = if entries > 4_096 { r.below(9) } else { entries };
+    let entries = scratch(r, count);
     let fill = r.pick(&[0, 1, 0xABCD, 65_535]);
     Call { no: 39, numbers: vec![count, entries, fill], texts: vec![bytes, key] }
 }

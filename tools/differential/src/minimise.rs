@@ -28,7 +28,7 @@ fn written(program: &Program, call: &Call) -> Option<Vec<u8>> {
 fn checksum_at(no: u8) -> Option<usize> {
     match no {
         34 | 35 => Some(4092),
-        36 => Some(64),
+        36 | 43 => Some(64),
         _ => None,
     }
 }

@@ -386,6 +386,21 @@ fn scratch(out: &mut Vec<u8>, entries: &[u16]) {
     hex(out, &bytes);
 }
 
+/// The first record of a lookup on a view: the view's numbers, the floor record's, and the record's, its contents as checksums.
+fn handed(out: &mut Vec<u8>, view: &PageView, key: &[u8], entries: &mut [u16]) {
+    let word = |bytes| u64::from(crc::crc32c(bytes));
+    fields(out, &[view.level.into(), view.data_blocks, open::view_parts(view).0 as u64]);
+    let Some((index, mut records)) = view.floor_record(key, |a, b| a.cmp(b), entries) else {
+        return fields(out, &[0; 9]);
+    };
+    fields(out, &[1, index as u64, open::records_parts(&records).1 as u64]);
+    match records.next() {
+        Some((key, value)) => fields(out, &[1, key.len() as u64, word(key), value.len() as u64, word(value)]),
+        None => fields(out, &[0; 5]),
+    }
+    field(out, open::records_parts(&records).1 as u64);
+}
+
 fn page_answer(call: &Lent, out: &mut Vec<u8>) -> Said {
     let (n, t) = (&call.numbers, &call.texts);
     match call.no {
@@ -435,6 +450,14 @@ fn page_answer(call: &Lent, out: &mut Vec<u8>) -> Said {
             let (payload, count) = (n[5] as usize, n[6] as usize);
             let total = open::validate_records(&block, payload, count, kind(n[0]), n[1] as u8, n[2], n[3], mode(n[4]));
             valued(out, total)
+        }
+        43 => {
+            let (page, id) = (tree(n[0], n[1]), uuid(t[0]));
+            let view = format::decode_page(t[1], page, &id, kind(n[2]), n[3], level(n[4]), n[5]);
+            let mut entries = vec![0xFFFF; n[6] as usize];
+            let said = checked(out, view, 12, 0, |out, view| handed(out, &view, t[2], &mut entries));
+            scratch(out, &entries);
+            said
         }
         no => panic!("call {no}"),
     }

@@ -182,6 +182,15 @@ impl Case {
         }
     }
 
+    /// The lookup of a key on the view, lent a scratch of so many entries.
+    pub fn handed_call(self, key: Vec<u8>, entries: u64) -> Call {
+        let mut call = self.decode_call();
+        call.no = 43;
+        call.numbers.push(entries);
+        call.texts.push(key);
+        call
+    }
+
     pub fn verified_call(self) -> Call {
         Call {
             no: 37,

@@ -33,6 +33,8 @@ fn apart(call: &Call, said: Said, fields: &[u8]) -> u64 {
     }
     let accepted = said.verdict == Some((0, 0));
     let found = u64::from(fields.first() == Some(&b'1'));
+    let text = |place: usize| std::str::from_utf8(fields.split(|byte| *byte == b' ').nth(place)?).ok();
+    let told = |place: usize| text(place).and_then(|field| field.parse::<u64>().ok()).unwrap_or(0);
     match call.no {
         // The tree kind, and leaf or internal.
         36 if accepted => n(2) << 8 | u64::from(byte(12) == Some(1)),
@@ -49,6 +51,8 @@ fn apart(call: &Call, said: Said, fields: &[u8]) -> u64 {
             found << 16 | u64::from(n(1) >= n(0)) << 15 | u64::from(index) << 4 | n(0).min(9)
         }
         40 => found << 4 | n(0).min(2),
+        // The tree kind, walked or halved, found or not, at the front or behind it.
+        43 if accepted => n(2) << 8 | told(5) << 4 | u64::from(n(6) >= told(4)) << 3 | told(6).min(1),
         // A few of those that have neither class nor turn.
         1..=7 | 12..=15 | 31 | 32 => hash(fields) % 8,
         11 => hash(fields) % 64,
@@ -85,6 +89,10 @@ impl Kept {
         };
         assert!(!panicked, "the reference panics on {call:?}");
         self.reached.entry(call.no).or_default().extend(said.verdict);
+        // What `hand_out` refuses, `decode_page` does: of it only what is handed out is kept.
+        if call.no == 43 && said.verdict != Some((0, 0)) {
+            return;
+        }
         let shows = (call.no, said.verdict, apart);
         let kept = self.inputs.entry(shows).or_insert_with(|| bytes.clone());
         if bytes.len() < kept.len() {

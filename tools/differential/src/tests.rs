@@ -2,6 +2,7 @@
 
 use crate::call::{self, Call};
 use crate::listed::{self, LISTED};
+use crate::random::Random;
 use crate::{oracle, readback};
 use std::panic::{AssertUnwindSafe, catch_unwind};
 
@@ -175,6 +176,25 @@ fn lookups() {
     assert_eq!(fields(40, &[1], &[&[0, 0, 0, 0]]), "1 4 0 4 0 4");
     assert_eq!(fields(40, &[9], &[&[1, 0, 2, 0, 7, 8, 9, 1]]), "1 4 1 5 2 7");
     assert_eq!(fields(40, &[0], &[&[0, 0, 0, 0]]), "0 0 0 0 0 0");
+}
+
+/// The lookup of a page's last key hands that record out, by its contents.
+#[test]
+fn handed_out() {
+    let mut r = Random::new(4);
+    for _ in 0..200 {
+        let case = crate::pages::good(&mut r);
+        let Some((key, value)) = case.records.last().cloned() else {
+            continue;
+        };
+        let count = case.records.len();
+        let call = case.handed_call(key.clone(), 0);
+        let texts: Vec<&[u8]> = call.texts.iter().map(|text| &text[..]).collect();
+        let answer = fields(43, &call.numbers, &texts);
+        let told = |bytes: &[u8]| format!("{} {}", bytes.len(), reference::crc::crc32c(bytes));
+        let due = format!(" {count} 1 {} 1 1 {} {} 0 x", count - 1, told(&key), told(&value));
+        assert!(answer.starts_with("0 0 ") && answer.ends_with(&due), "{answer}, due {due}");
+    }
 }
 
 #[test]

@@ -2,13 +2,13 @@
 use mathlib.Core.Path.{_≡_, refl}
 use borrow.Author.Needs.{needs}
 use Rattle.crc.specs.Crc.{extend}
-use Rattle.crc.specs.DataUnit.{le}
+use Rattle.octets.specs.Number.{littleBytes}
 use Rattle.crc.proofs.Parts.{number-one, number-done}
 use Rattle.crc.proofs.number_with.Statement.{statement}
 use Rattle.crc.proofs.number_with.Tie as tie
 
 abbrev Inv-loop : tie.InvT-loop
-Inv-loop t crc width n r₀ left₀ rest₀ r left rest = extend crc (le width n) ≡ extend r (le left rest)
+Inv-loop t crc width n r₀ left₀ rest₀ r left rest = extend crc (littleBytes width n) ≡ extend r (littleBytes left rest)
 
 abbrev μ-loop : tie.MeasureT-loop
 μ-loop t crc width n r₀ left₀ rest₀ r left rest = left

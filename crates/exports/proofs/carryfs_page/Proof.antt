@@ -6,17 +6,17 @@ use Rattle.exports.proofs.carryfs_page.Statement.{statement}
 use Rattle.exports.proofs.carryfs_page.Tie as tie
 
 returns : tie.Need-returns
-returns c = let t = no-of (c .if1 .taken) (c .before .is-asked .ensures) in (rw t, rw t)
+returns c = let t = no-of (c .if1 .taken) (c .before .can-ask .ensures) in (rw t, rw t)
 
-page-answer-requires : tie.Need-page-answer-requires
-page-answer-requires c κs = asked-fits _ _ _ (yes-of (c .if1 .left) (c .before .is-asked .ensures))
+asked-page-requires : tie.Need-asked-page-requires
+asked-page-requires c κs = asked-fits _ _ _ (yes-of (c .if1 .left) (c .before .can-ask .ensures))
 
 returns-2 : tie.Need-returns-2
 returns-2 c =
     let w = c .before .before .before .before .before in
     let a = w .before .before .before .before .before .before .args in
-    let t = yes-of (w .before .if1 .left) (w .before .before .is-asked .ensures) in
-    let p = placed-as 7 _ _ (a .out .now) _ _ (answer-length (a .bytes .now) (a .block) (a .generation) (a .uuid .now) (a .kind) (a .parent) (a .level) (a .blocks)) (w .page-answer .ensures) (c .before .before .place .ensures) in
+    let t = yes-of (w .before .if1 .left) (w .before .before .can-ask .ensures) in
+    let p = placed-as 7 _ _ (a .out .now) _ _ (answer-length (a .bytes .now) (a .block) (a .generation) (a .uuid .now) (a .kind) (a .parent) (a .level) (a .blocks)) (w .asked-page .ensures) (c .before .before .place .ensures) in
     (p .0 ∙ rw t, p .1 ∙ rw t)
 
 pub carryfs-page-spec : {M : Type 1} → statement M
@@ -25,7 +25,7 @@ carryfs-page-spec =
     (tie.spec
     (search needs)
     returns
-    page-answer-requires
+    asked-page-requires
     (λ c. search needs)
     (search needs)
     (λ c. search needs)

@@ -1,40 +1,34 @@
-use mathlib.Core.Path.{sym, _∙_, ap}
 use native.Mathlib.Omega.{arith}
-use Rattle.exports.specs.Words.{overAt, rootText}
-use Rattle.exports.proofs.Answers.{two-puts}
 use borrow.Author.Needs.{needs}
+use lib.ListN.{length-append}
+use Rattle.octets.proofs.Lay.{laid-then}
+use Rattle.exports.specs.Words.{rootText}
+use Rattle.exports.proofs.Answers.{laid-over}
 use Rattle.exports.proofs.put_text.Statement.{statement}
 use Rattle.exports.proofs.put_text.Tie as tie
 
-slice-aggregate-put-bytes : tie.Need-slice-aggregate-put-bytes
-slice-aggregate-put-bytes c = search needs
+slice-aggregate-put : tie.Need-slice-aggregate-put
+slice-aggregate-put c = search needs
 
-put-bytes-requires : tie.Need-put-bytes-requires
-put-bytes-requires c κs = omega (arith, slice-aggregate-put-bytes (c .before))
-
-slice-aggregate-put-bytes-2 : tie.Need-slice-aggregate-put-bytes-2
-slice-aggregate-put-bytes-2 c = search needs
-
-put-bytes-requires-2 : tie.Need-put-bytes-requires-2
-put-bytes-requires-2 c κs = omega (arith, slice-aggregate-put-bytes-2 (c .before))
-
-same-length : tie.Need-same-length
-same-length c = search needs
+slice-aggregate-put-2 : tie.Need-slice-aggregate-put-2
+slice-aggregate-put-2 c = search needs
 
 returns : tie.Need-returns
 unfolding rootText
 returns c =
-    let b = c .before .before .before .before .before .before .before in
-    let a = b .before .before .before .before .before .before .before .args in
-    c .before .before .put-bytes2 .ensures ∙ ap (overAt 16 (a .root .label .bytes)) (b .put-bytes .ensures) ∙ two-puts 16 (a .root .uuid) (a .root .label .bytes) (a .text .now) (sym (slice-aggregate-put-bytes (b .before .before)))
+    let second = c .before .before in
+    let first = second .before .before .before .before .before in
+    let root = first .before .before .before .before .before .before .before .args .root in
+    laid-over (laid-then (first .put .ensures) (second .put2 .ensures))
+    (omega (arith, length-append (root .uuid) (root .label .bytes), slice-aggregate-put (first .before), slice-aggregate-put-2 (second .before), first .before .before .before .before .before .before .before .pre))
 
 pub put-text-spec : {M : Type 1} → statement M
 put-text-spec =
     tie.close
     (tie.spec
-    slice-aggregate-put-bytes
-    put-bytes-requires
-    slice-aggregate-put-bytes-2
-    put-bytes-requires-2
-    same-length
+    slice-aggregate-put
+    (λ c κs. search needs)
+    slice-aggregate-put-2
+    (λ c κs. search needs)
+    (λ c. search needs)
     returns)

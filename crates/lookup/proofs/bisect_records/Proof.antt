@@ -20,8 +20,8 @@ loop-holds c = (omega arith, omega arith, reached-start _ _ _ _ 0 0)
 cast-at : tie.Need-cast-at Inv-loop μ-loop
 cast-at c = omega (arith, c .shared-slice-known4 .given ((c .before .before .loop .low + c .before .before .loop .high) / 2))
 
-key-above-requires : tie.Need-key-above-requires Inv-loop μ-loop
-key-above-requires c κs =
+above-at-requires : tie.Need-above-at-requires Inv-loop μ-loop
+above-at-requires c κs =
     let l = c .before .before in
     let z = l .before .before .before .before in
     let w = z .pre .1 ((l .loop .low + l .loop .high) / 2) (omega arith) in
@@ -30,12 +30,12 @@ key-above-requires c κs =
 loop-again : tie.Need-loop-again Inv-loop μ-loop
 loop-again c =
     let l = c .before .before .before .before in
-    (omega arith, omega arith, reached-down _ _ _ _ _ _ (omega arith) (sym (c .before .key-above .ensures) ∙ c .if1 .taken) (l .loop .inv .2))
+    (omega arith, omega arith, reached-down _ _ _ _ _ _ (omega arith) (sym (c .before .above-at .ensures) ∙ c .if1 .taken) (l .loop .inv .2))
 
 loop-again-2 : tie.Need-loop-again-2 Inv-loop μ-loop
 loop-again-2 c =
     let l = c .before .before .before .before in
-    (omega arith, omega arith, reached-up _ _ _ _ _ _ (omega arith) (sym (c .before .key-above .ensures) ∙ c .if1 .left) (l .loop .inv .2))
+    (omega arith, omega arith, reached-up _ _ _ _ _ _ (omega arith) (sym (c .before .above-at .ensures) ∙ c .if1 .left) (l .loop .inv .2))
 
 cast-offset : tie.Need-cast-offset Inv-loop μ-loop
 cast-offset c = omega (arith, c .shared-slice-known5 .given (c .before .before .before .loop .low - 1))
@@ -61,7 +61,7 @@ bisect-records-spec =
     (λ c. search needs)
     (λ c. search needs)
     cast-at
-    key-above-requires
+    above-at-requires
     (λ c. search needs)
     loop-again
     (λ c. search needs)

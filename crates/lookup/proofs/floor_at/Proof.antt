@@ -16,7 +16,7 @@ returns-2 : tie.Need-returns-2
 returns-2 c =
     let a = c .before .before .before .before .before .before .args in
     let w = floor-walk (a .part .now) (a .count) (a .key .now) (a .scratch .now) (c .before .before .if1 .left) (c .before .if2 .taken) in
-    (c .walk-records .ensures ∙ w .0, w .1)
+    (c .walk-floor .ensures ∙ w .0, w .1)
 
 bisect-records-requires : tie.Need-bisect-records-requires
 bisect-records-requires c κs =

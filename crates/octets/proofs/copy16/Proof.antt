@@ -1,40 +1,10 @@
-use Prim.Native.Nat.{_≤_, _-_}
-use mathlib.Core.Path.{_≡_, refl}
-use lib.ListN.{length}
+use Rattle.octets.proofs.Padded.{laid-padded}
 use borrow.Author.Needs.{needs}
-use Rattle.octets.proofs.Padded.{filled, fill-more, fill-ends, fill-full}
 use Rattle.octets.proofs.copy16.Statement.{statement}
 use Rattle.octets.proofs.copy16.Tie as tie
 
-abbrev Inv-loop : tie.InvT-loop
-Inv-loop bytes out₀ i₀ out i = (i ≤ 16) × (i ≤ length bytes) × (out ≡ filled 16 bytes i)
-
-abbrev μ-loop : tie.MeasureT-loop
-μ-loop bytes out₀ i₀ out i = 16 - i
-
-loop-holds : tie.Need-loop-holds Inv-loop μ-loop
-loop-holds c = (search needs, search needs, refl)
-
-returns : tie.Need-returns Inv-loop μ-loop
-returns c = search fill-ends
-
-loop-again : tie.Need-loop-again Inv-loop μ-loop
-loop-again c = (search needs, search needs, search fill-more)
-
-returns-2 : tie.Need-returns-2 Inv-loop μ-loop
-returns-2 c = search fill-full
+returns : tie.Need-returns
+returns c = laid-padded 16 _ (c .before .put .ensures)
 
 pub copy16-spec : {M : Type 1} → statement M
-copy16-spec =
-    tie.close
-    (tie.spec
-    Inv-loop
-    μ-loop
-    loop-holds
-    returns
-    (λ c. search needs)
-    (λ c. search needs)
-    (λ c. search needs)
-    (λ c. search needs)
-    loop-again
-    returns-2)
+copy16-spec = tie.close (tie.spec (λ c. search needs) (λ c κs. search needs) returns)

@@ -20,7 +20,9 @@ cleanup-internal-key-spec =
     (search needs)
     (search needs)
     (search needs)
+    (search needs)
     returns
+    (search needs)
     (search needs)
     (search needs)
     returns-2

@@ -1,11 +1,11 @@
 use Prim.Native.Nat.{_-_}
 use borrow.Author.Needs.{needs}
-use Rattle.record.proofs.Taken.{Walked, walk-starts, walk-byte, walk-bit, walk-ends, walk-stops, byte-fits, byte-less}
+use Rattle.record.proofs.Taken.{TakenTo, walk-starts, walk-byte, walk-bit, walk-ends, walk-stops, byte-fits, byte-less}
 use Rattle.record.proofs.taken_between.Statement.{statement}
 use Rattle.record.proofs.taken_between.Tie as tie
 
 abbrev Inv-loop : tie.InvT-loop
-Inv-loop value start end block₀ block = Walked value start block
+Inv-loop value start end block₀ block = TakenTo value start block
 
 abbrev μ-loop : tie.MeasureT-loop
 μ-loop value start end block₀ block = end - block

@@ -1,4 +1,4 @@
-use Rattle.report.proofs.Lay.{laid-two}
+use Rattle.octets.proofs.Lay.{laid-two}
 use Rattle.report.specs.Line.{cutLine}
 use borrow.Author.Needs.{needs}
 use Rattle.report.proofs.cut_line.Statement.{statement}

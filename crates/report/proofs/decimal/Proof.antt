@@ -1,4 +1,4 @@
-use Rattle.report.proofs.Lay.{laid-part}
+use Rattle.report.proofs.Digits.{laid-part}
 use borrow.Author.Needs.{needs}
 use Rattle.report.proofs.decimal.Statement.{statement}
 use Rattle.report.proofs.decimal.Tie as tie

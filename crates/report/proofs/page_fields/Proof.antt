@@ -1,4 +1,4 @@
-use Rattle.report.proofs.Lay.{laid-three}
+use Rattle.octets.proofs.Lay.{laid-three}
 use Rattle.report.specs.Line.{pageFields}
 use borrow.Author.Needs.{needs}
 use Rattle.report.proofs.page_fields.Statement.{statement}

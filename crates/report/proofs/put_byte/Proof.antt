@@ -1,4 +1,4 @@
-use Rattle.report.proofs.Lay.{laid-out}
+use Rattle.octets.proofs.Lay.{laid-out}
 use borrow.Author.Needs.{needs}
 use Rattle.report.proofs.put_byte.Statement.{statement}
 use Rattle.report.proofs.put_byte.Tie as tie

@@ -1,4 +1,4 @@
-use Rattle.report.proofs.Lay.{laid-two}
+use Rattle.octets.proofs.Lay.{laid-two}
 use Rattle.report.specs.Line.{rootFields}
 use borrow.Author.Needs.{needs}
 use Rattle.report.proofs.root_fields.Statement.{statement}

@@ -12,9 +12,6 @@ returns-2 c = search select
 returns-3 : tie.Need-returns-3
 returns-3 c = search select
 
-returns-4 : tie.Need-returns-4
-returns-4 c = search select
-
 pub select-root-spec : {M : Type 1} → statement M
 select-root-spec =
     tie.close
@@ -24,6 +21,4 @@ select-root-spec =
     (search needs)
     returns-2
     (search needs)
-    returns-3
-    (search needs)
-    returns-4)
+    returns-3)

@@ -6,7 +6,7 @@ use native.Mathlib.Omega.{arith}
 use denote.Ref.{now}
 use lib.ListN.{length, drop}
 use Rattle.octets.specs.Number.{u16At}
-use Rattle.lookup.specs.Record.{split, isRecord}
+use Rattle.lookup.specs.Record.{splitRecord, isRecord}
 use Rattle.lookup.specs.Sorted.{offsetOf}
 use Rattle.walk.specs.Records.{among}
 use Rattle.walk.specs.Inside.{storedBlocks}
@@ -21,7 +21,7 @@ abbrev μ-loop : tie.MeasureT-loop
 μ-loop rest n block hit₀ position₀ i₀ hit position i = n - i
 
 -- the record at the position is whole, and lies within the bytes
-whole : (c : tie.In-loop Inv-loop μ-loop) → isRecord (split (drop (c .before .loop .position) (now (c .before .before .before .args .rest)))) ≡ true
+whole : (c : tie.In-loop Inv-loop μ-loop) → isRecord (splitRecord (drop (c .before .loop .position) (now (c .before .before .before .args .rest)))) ≡ true
 whole c = rw (c .before .loop .inv .1) (c .before .before .before .pre (c .before .loop .i) (c .loop-test .taken))
 
 within : (c : tie.In-loop Inv-loop μ-loop) → let p = c .before .loop .position in let s = now (c .before .before .before .args .rest) in p + 4 + u16At s p + u16At s (p + 2) ≤ length s

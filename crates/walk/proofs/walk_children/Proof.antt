@@ -8,15 +8,15 @@ use Rattle.walk.proofs.walk_children.Statement.{statement}
 use Rattle.walk.proofs.walk_children.Tie as tie
 
 abbrev Inv-loop : tie.InvT-loop
-Inv-loop rest payload count context mode seen₀ at₀ key-start₀ key-end₀ n₀ seen at key-start key-end n =
-    Children context rest payload count seen at key-start key-end n
+Inv-loop rest payloadLength count context mode seen₀ at₀ key-start₀ key-end₀ n₀ seen at key-start key-end n =
+    Children context rest payloadLength count seen at key-start key-end n
 
 abbrev μ-loop : tie.MeasureT-loop
-μ-loop rest payload count context mode seen₀ at₀ key-start₀ key-end₀ n₀ seen at key-start key-end n =
+μ-loop rest payloadLength count context mode seen₀ at₀ key-start₀ key-end₀ n₀ seen at key-start key-end n =
     count - n
 
 -- the record that passed lies within the payload
-size : (c : tie.After-key-len Inv-loop μ-loop) → let l = c .before .before .before .before .before .before .before in l .loop .at + 4 + c .key-len .given .0 .0 + c .key-len .given .0 .1 .0 ≤ l .before .before .args .payload
+size : (c : tie.After-key-len Inv-loop μ-loop) → let l = c .before .before .before .before .before .before .before in l .loop .at + 4 + c .key-len .given .0 .0 + c .key-len .given .0 .1 .0 ≤ l .before .before .args .payload-length
 size c = search child-size
 
 loop-holds : tie.Need-loop-holds Inv-loop μ-loop
@@ -32,7 +32,10 @@ add-at : tie.Need-add-at Inv-loop μ-loop
 add-at c = omega (arith, size (c .before))
 
 loop-again : tie.Need-loop-again Inv-loop μ-loop
-loop-again c = search child-on
+loop-again c =
+    let d = c .before .before .before in
+    let t = d .before .before .before .before in
+    child-on _ _ _ _ _ _ _ _ _ _ (t .before .loop .inv) (t .loop-test .taken) (d .check-child .ensures) (t .before .before .before .pre) _ _ _ (c .before .key-len .given .1)
 
 returns : tie.Need-returns Inv-loop μ-loop
 returns c = search child-refused

@@ -10,15 +10,15 @@ use Rattle.walk.proofs.walk_leaf.Statement.{statement}
 use Rattle.walk.proofs.walk_leaf.Tie as tie
 
 abbrev Inv-loop : tie.InvT-loop
-Inv-loop rest payload count context mode total₀ position₀ key-start₀ key-end₀ i₀ total position key-start key-end i =
-    Going true (context .mode) (leafRules context) rest payload count total [] position key-start key-end i
+Inv-loop rest payloadLength count context mode total₀ position₀ key-start₀ key-end₀ i₀ total position key-start key-end i =
+    Going true (context .mode) (leafRules context) rest payloadLength count total [] position key-start key-end i
 
 abbrev μ-loop : tie.MeasureT-loop
-μ-loop rest payload count context mode total₀ position₀ key-start₀ key-end₀ i₀ total position key-start key-end i =
+μ-loop rest payloadLength count context mode total₀ position₀ key-start₀ key-end₀ i₀ total position key-start key-end i =
     count - i
 
 -- the record that passed lies within the payload
-size : (c : tie.After-key-len Inv-loop μ-loop) → let l = c .before .before .before .before .before .before in l .loop .position + 4 + c .key-len .given .0 .0 + c .key-len .given .0 .1 .0 ≤ l .before .before .args .payload
+size : (c : tie.After-key-len Inv-loop μ-loop) → let l = c .before .before .before .before .before .before in l .loop .position + 4 + c .key-len .given .0 .0 + c .key-len .given .0 .1 .0 ≤ l .before .before .args .payload-length
 size c = search leaf-size
 
 loop-holds : tie.Need-loop-holds Inv-loop μ-loop
@@ -34,7 +34,10 @@ add-position : tie.Need-add-position Inv-loop μ-loop
 add-position c = omega (arith, size (c .before))
 
 loop-again : tie.Need-loop-again Inv-loop μ-loop
-loop-again c = search leaf-on
+loop-again c =
+    let d = c .before .before .before in
+    let t = d .before .before .before in
+    leaf-on (t .before .before .before .args .context) _ _ _ _ _ _ _ _ _ (t .before .loop .inv) (t .loop-test .taken) (d .check-leaf .ensures) _ _ _ (c .before .key-len .given .1)
 
 returns : tie.Need-returns Inv-loop μ-loop
 returns c = search leaf-refused

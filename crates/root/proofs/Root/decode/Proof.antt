@@ -6,8 +6,8 @@ use Rattle.root.proofs.Root.decode.Tie as tie
 returns : tie.Need-returns
 returns c = search block-refused
 
-read-root-requires : tie.Need-read-root-requires
-read-root-requires c κs = block-read _ _ _ _ (c .before .before .check-block .ensures) (c .enum-told .given .1)
+root-of-requires : tie.Need-root-of-requires
+root-of-requires c κs = block-read _ _ _ _ (c .before .before .check-block .ensures) (c .enum-told .given .1)
 
 returns-2 : tie.Need-returns-2
 returns-2 c = search fields-refused
@@ -24,7 +24,7 @@ decode-spec =
     (λ c. search needs)
     (search needs)
     returns
-    read-root-requires
+    root-of-requires
     (search needs)
     (λ c. search needs)
     (λ c. search needs)

@@ -42,7 +42,7 @@ use denote.Triple.Spec.{Meets, tripleOf}
 use denote.Triple.Table.{entered, cited}
 use denote.Triple.Walked.{says, Stays, stay-none, stay-none-slice, gave-slice, walkOf, goes-none, goes-none-slice, goes-gave-slice, Walks, ends-at, walked, walk-meets}
 use denote.Exit.{yes}
-use Rattle.lookup.specs.Floor.{answerAt, scratchOf}
+use Rattle.lookup.specs.Floor.{floorAnswer, scratchOf}
 use Rattle.lookup.specs.declared.Answer.{Answer}
 use Rattle.lookup.proofs.Answer as An
 use Rattle.lookup.proofs.Answer.Laws as An′
@@ -121,7 +121,7 @@ module _ {M : Type 1} (𝓤 : URA M) (H : Heap 𝓤) (A : Atoms 𝓤) (W : Given
 
   -- what `floor_answer` answers
   abbrev ans : Answer
-  ans = answerAt (now (d .payload)) (d .count) (now k) (length ys)
+  ans = floorAnswer (now (d .payload)) (d .count) (now k) (length ys)
 
   abbrev Post : Val → SProp 𝓤
   Post = walkOf 𝓤 H A fr.ended stayed (fr.clauses 𝓤 H A mem run) .post ((κs, qs, tt, a, vals), tt)

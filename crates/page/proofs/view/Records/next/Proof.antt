@@ -41,7 +41,7 @@ use denote.Triple.Spec.{Meets, tripleOf}
 use denote.Triple.Table.{entered, cited}
 use denote.Triple.Walked.{says, Stays, stay-none, walkOf, goes-none, Walks, ends-at, walked, walk-meets}
 use denote.Exit.{yes}
-use Rattle.lookup.specs.Floor.{stepOf}
+use Rattle.lookup.specs.Floor.{nextRecord}
 use Rattle.lookup.specs.declared.Step.{Step}
 use Rattle.lookup.proofs.Step as St
 use Rattle.lookup.proofs.Step.Laws as St′
@@ -83,8 +83,8 @@ module _ {M : Type 1} (𝓤 : URA M) (H : Heap 𝓤) (A : Atoms 𝓤) (mem : Mem
   abbrev NextRecord : Contract 𝓤
   NextRecord = tripleOf 𝓤 H A nr.signature (nr.spec 𝓤 H A mem run)
 
-  step-of : (κ : Lft) (s : RefT (List ℕ)) (n : ℕ) (r : Step) → ent 𝓤 (ensured 𝓤 H A nr.ended (nr.clauses 𝓤 H A mem run) (κ, tt) (s, (n, tt)) tt r) (fact 𝓤 (r ≡ stepOf (now s) n))
-  step-of κ s n r = exE 𝓤 _ (λ ws. snd∗ 𝓤 (sem 𝓤 H A (lasts nr.ended (κ, tt) (s, (n, tt)) ws)) (fact 𝓤 (r ≡ stepOf (now s) n)))
+  step-of : (κ : Lft) (s : RefT (List ℕ)) (n : ℕ) (r : Step) → ent 𝓤 (ensured 𝓤 H A nr.ended (nr.clauses 𝓤 H A mem run) (κ, tt) (s, (n, tt)) tt r) (fact 𝓤 (r ≡ nextRecord (now s) n))
+  step-of κ s n r = exE 𝓤 _ (λ ws. snd∗ 𝓤 (sem 𝓤 H A (lasts nr.ended (κ, tt) (s, (n, tt)) ws)) (fact 𝓤 (r ≡ nextRecord (now s) n)))
 
 module _ {M : Type 1} (𝓤 : URA M) (H : Heap 𝓤) (A : Atoms 𝓤) (W : Given 𝓤 H A) (mem : Memory → SProp 𝓤) (run : Routine → Fun 𝓤) (κ : Lft) (q : Share) (d : Records) where
   abbrev α : NamedLft
@@ -145,11 +145,11 @@ module _ {M : Type 1} (𝓤 : URA M) (H : Heap 𝓤) (A : Atoms 𝓤) (W : Given
   abbrev res : Step → RefT (List ℕ) → RefT (List ℕ) → RefT (List ℕ) → Next
   res r k v t = record { found = r .found; key = k; value = v; payload = t; remaining = r .remaining }
 
-  stepped : (r : Step) (k v t : RefT (List ℕ)) → r ≡ stepOf bytes (d .remaining) → IsPart (d .payload) (r .«key_start») (r .«key_end» - r .«key_start») k → IsPart (d .payload) (r .«key_end») (r .«value_end» - r .«key_end») v → IsRest (d .payload) (r .«value_end») t
-      → Stepped (d .payload) (stepOf bytes (d .remaining)) (res r k v t)
+  stepped : (r : Step) (k v t : RefT (List ℕ)) → r ≡ nextRecord bytes (d .remaining) → IsPart (d .payload) (r .«key_start») (r .«key_end» - r .«key_start») k → IsPart (d .payload) (r .«key_end») (r .«value_end» - r .«key_end») v → IsRest (d .payload) (r .«value_end») t
+      → Stepped (d .payload) (nextRecord bytes (d .remaining)) (res r k v t)
   stepped r k v t e hk hv ht = subst (λ (s : Step). Stepped (d .payload) s (res r k v t)) e (record { found = refl; key = hk; value = hv; rest = ht; remaining = refl })
 
-  exits : (r : Step) (k v t : RefT (List ℕ)) → Stepped (d .payload) (stepOf bytes (d .remaining)) (res r k v t) → r .remaining < 2 ^ 64
+  exits : (r : Step) (k v t : RefT (List ℕ)) → Stepped (d .payload) (nextRecord bytes (d .remaining)) (res r k v t) → r .remaining < 2 ^ 64
       → ent 𝓤 (⋆ 𝓤 H A (Tok ∷ ‵ Own ∷ ‵ (Owned κ k) ∷ ‵ (Owned κ v) ∷ ‵ (Owned κ t) ∷ [])) (Post (R′.lowered (res r k v t)))
   exits r k v t e m =
       qed W (Tok ∷ ‵ Own ∷ ‵ (Owned κ k) ∷ ‵ (Owned κ v) ∷ ‵ (Owned κ t) ∷ []) ∵
@@ -176,7 +176,7 @@ module _ {M : Type 1} (𝓤 : URA M) (H : Heap 𝓤) (A : Atoms 𝓤) (W : Given
         use1 W (‵ P ⊛ ‵ P) (twice 𝓤 H A W κ (d .payload)) $ split ! $ move ! (3 ∷ 0 ∷ []) $ use2 W (raw (NextRecord 𝓤 H A mem run .pre to-next)) (goes-next (wt .1 .1 .0 .fits)) $
         calls-at ! fm (NextRecord 𝓤 H A mem run) known to-next (and-then ! (load ! (from ! (stop !)) (look ! 17 refl)) (and-then ! (load ! (from ! (stop !)) (look ! 15 refl)) (no-more !))) (λ u.
         use1 W (later (some (λ (r : Step). (Tok ⊛ ‵ (St.the-row .own r (u ∷ []))) ⊛ raw (ensured 𝓤 H A nr.ended (nr.clauses 𝓤 H A mem run) (κ, tt) (d .payload, (d .remaining, tt)) tt r)))) (id⊢ 𝓤 _) $ await ! tt $ pick ! (λ r.
-        split ! $ move ! (1 ∷ []) $ use1 W (raw (fact 𝓤 (r ≡ stepOf bytes (d .remaining)))) (step-of 𝓤 H A mem run κ (d .payload) (d .remaining) r) $ heard ! (r ≡ stepOf bytes (d .remaining)) (λ e. split ! $ move ! (1 ∷ []) $
+        split ! $ move ! (1 ∷ []) $ use1 W (raw (fact 𝓤 (r ≡ nextRecord bytes (d .remaining)))) (step-of 𝓤 H A mem run κ (d .payload) (d .remaining) r) $ heard ! (r ≡ nextRecord bytes (d .remaining)) (λ e. split ! $ move ! (1 ∷ []) $
         -- [the step; the token; the payload; the struct; _10; …]
         peeks ! St.the-row (Is St.the-row) (shows 𝓤 H A St.the-row) r (u ∷ []) (λ is.
         land ! (from ! (stop !)) (init ! 20 refl (LL.lawful St.the-type St′.the-laws 𝓤 H A W .typed r _ is .0)) $ rewrite ! 20 (λ (z : Val). ‵ (fat fullShare St′.mir l₂ 0 z)) (ap only (LL.tells St.the-type St′.the-laws r _ is)) refl $ drop ! $
