@@ -14,7 +14,7 @@ use Rattle.octets.specs.Number.{u16At, u64At}
 use Rattle.utf8.specs.Reading.{utf8}
 use Rattle.catalog.specs.Keys.{validateOwnerId}
 
--- the fields of an entry
+-- section 5: u64 at 0, the object that it names
 abbrev pub entryTarget : List ℕ → ℕ
 entryTarget value = u64At value 0
 

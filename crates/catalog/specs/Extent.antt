@@ -14,7 +14,7 @@ use Rattle.volume.specs.Numbers.{sumFits}
 use Rattle.volume.specs.Blocks.{isNonreservedRun}
 use Rattle.catalog.specs.Keys.{keyNumber}
 
--- the fields of an extent; the first logical block is in its key
+-- section 5: its first logical block, which its key holds
 abbrev pub extentLogical : List ℕ → ℕ
 extentLogical key = keyNumber key
 

@@ -44,7 +44,7 @@ symlinkTargetDemands target mode =
 unfoldable pub validateSymlinkTarget : List ℕ → Validation → Check
 validateSymlinkTarget target mode = demands (symlinkTargetDemands target mode)
 
--- section 5: byte 0, its type; the fields of an inode are those from here on
+-- section 5: byte 0, its type
 abbrev pub inodeType : List ℕ → ℕ
 inodeType value = byteAt value 0
 

@@ -22,7 +22,7 @@ ownerDemands owner mode = (leb 1 owner && leb owner (2 ^ 63 - 2)) otherwise viol
 unfoldable pub validateOwnerId : ℕ → Validation → Check
 validateOwnerId owner mode = demands (ownerDemands owner mode)
 
--- a key of the catalog: the owner's number, the record's kind, and what the kind asks for
+-- section 5: the number at the front of a key, its owner
 abbrev pub keyOwner : List ℕ → ℕ
 keyOwner key = bigAt key 0
 
@@ -38,7 +38,7 @@ keyNumber key = bigAt key 9
 abbrev pub keyName : List ℕ → List ℕ
 keyName key = drop 9 key
 
--- an inode's key (1) ends there; an entry's (2) has 1 to 765 bytes of UTF-8; an extent's (3) and a checksum group's (4) have a number of 8 bytes
+-- section 5: kind 1, an inode, ends there
 abbrev pub isInodeKey : List ℕ → Bool
 isInodeKey key = eqb (keyKind key) 1 && eqb (length key) 9
 
@@ -46,7 +46,7 @@ isInodeKey key = eqb (keyKind key) 1 && eqb (length key) 9
 abbrev pub isEntryKey : List ℕ → Bool
 isEntryKey key = eqb (keyKind key) 2 && leb 10 (length key) && leb (length key) 774 && utf8 (keyName key)
 
--- section 5: kinds 3 and 4, an extent and a checksum group, have a number
+-- section 5: kinds 3 and 4, an extent and a checksum group, have a number of 8 bytes
 abbrev pub isNumberKey : List ℕ → Bool
 isNumberKey key = (eqb (keyKind key) 3 || eqb (keyKind key) 4) && eqb (length key) 17
 

@@ -16,7 +16,7 @@ use Rattle.octets.specs.Number.{u32At, u64At}
 unfoldable pub secondsInRange : ℤ → Bool
 secondsInRange seconds = leZ (negℤ (pos 11644473600)) seconds && leZ seconds (pos 253402300799)
 
--- and nanoseconds to 999999999
+-- section 5: the seconds, and nanoseconds to 999999999
 abbrev pub timestampRangeDemands : ℤ → ℕ → Validation → List Demand
 timestampRangeDemands seconds nanos mode =
     secondsInRange seconds otherwise violationOf mode reason.timestampSecondsOutOfRange

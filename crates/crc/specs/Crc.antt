@@ -6,7 +6,6 @@ use lib.Bits.{bitXor}
 
 -- exclusive or: the bits in which two numbers differ
 infixl 60 _⊕_
--- exclusive or, bit by bit
 unfoldable pub _⊕_ : ℕ → ℕ → ℕ
 a ⊕ b = bitXor a b
 

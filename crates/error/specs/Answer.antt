@@ -36,7 +36,7 @@ abbrev pub checkReason : Check → ℕ
 checkReason Passed = 0
 checkReason (Refused e) = reasonOf e
 
--- a check that gives a number, as a check alone, and its number, 0 beside a refusal
+-- a check that gives a number, as a check alone
 abbrev pub numberCheck : Number → Check
 numberCheck (Number.Value n) = Passed
 numberCheck (Number.Refused e) = Refused e

@@ -71,7 +71,7 @@ answerOf len count Nothing = record { found = false; index = 0; remaining = 0; f
 abbrev pub floorAnswer : List ℕ → ℕ → List ℕ → ℕ → Answer
 floorAnswer part count key entries = answerOf (length part) count (floorAt part count key entries)
 
--- the next record of n that are left: where its key starts and ends, where its value ends, and how many are left after it
+-- where there is no record nothing is passed, and as many are left
 abbrev pub noStep : ℕ → Step
 noStep n = record { found = false; «key_start» = 0; «key_end» = 0; «value_end» = 0; remaining = n }
 
@@ -80,6 +80,6 @@ abbrev pub stepSplit : ℕ → Split → Step
 stepSplit n (Record k v) = record { found = true; «key_start» = 4; «key_end» = 4 + k; «value_end» = 4 + k + v; remaining = n - 1 }
 stepSplit n Broken = noStep n
 
--- section 5: where none is left, none
+-- section 5: the next record of n that are left: where its key starts and ends, where its value ends, and how many are left after it
 unfoldable pub nextRecord : List ℕ → ℕ → Step
 nextRecord part n = cond (ltb 0 n) (stepSplit n (splitRecord part)) (noStep n)

@@ -12,7 +12,7 @@ use Rattle.lookup.specs.declared.Split.the-variants.{Record, Broken}
 use Rattle.lookup.specs.declared.Look.{Look}
 use Rattle.lookup.specs.declared.Look.the-variants.{Above, Size}
 
--- the two lengths of the record at the start of s; bytes past the end count as 0
+-- section 5: u16 at 0, the length of its key; bytes past the end count as 0
 abbrev pub keyLen : List ℕ → ℕ
 keyLen s = u16At s 0
 
@@ -24,7 +24,7 @@ valueLen s = u16At s 2
 abbrev pub recordLen : List ℕ → ℕ
 recordLen s = 4 + keyLen s + valueLen s
 
--- its key and its value
+-- section 5: behind the two lengths, its key
 abbrev pub keyOf : List ℕ → List ℕ
 keyOf s = part s 4 (keyLen s)
 

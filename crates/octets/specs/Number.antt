@@ -25,15 +25,15 @@ big (b ∷ bs) = b * 256 ^ length bs + big bs
 unfoldable pub field : List ℕ → ℕ → ℕ → ℕ
 field s offset width = little (part s offset width)
 
--- the u16, the u32 and the u64 at an offset
+-- the u16 at an offset
 abbrev pub u16At : List ℕ → ℕ → ℕ
 u16At s offset = field s offset 2
 
--- four bytes wide
+-- the u32 at an offset
 abbrev pub u32At : List ℕ → ℕ → ℕ
 u32At s offset = field s offset 4
 
--- eight bytes wide
+-- the u64 at an offset
 abbrev pub u64At : List ℕ → ℕ → ℕ
 u64At s offset = field s offset 8
 

@@ -12,7 +12,7 @@ use Rattle.octets.specs.declared.Read32.{Read32}
 abbrev pub readOf : List ℕ → ℕ → ℕ → ℕ → Number
 readOf s offset width reason = cond (within s offset width) (Number.Value (field s offset width)) (Number.Refused (Corrupt reason))
 
--- the answers of the readers of 2 and 4 bytes, as that of a check that gives a number
+-- the answer of the reader of two bytes, as that of a check that gives a number
 abbrev pub number16 : Read16 → Number
 number16 (Read16.Value n) = Number.Value n
 number16 (Read16.Refused e) = Number.Refused e

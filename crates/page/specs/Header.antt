@@ -23,7 +23,7 @@ use Rattle.page.specs.declared.Expected.{Expected}
 abbrev pub magic : List ℕ
 magic = 0x43 ∷ 0x46 ∷ 0x53 ∷ 0x58 ∷ 0x50 ∷ 0x41 ∷ 0x47 ∷ 0x45 ∷ []
 
--- page kind at 12, 1 leaf, 2 internal; tree kind at 13; level at 14
+-- section 4: byte 12, the page's kind, 1 leaf, 2 internal
 abbrev pub pageKind : List ℕ → ℕ
 pageKind page = byteAt page 12
 
@@ -35,7 +35,7 @@ treeKind page = byteAt page 13
 abbrev pub level : List ℕ → ℕ
 level page = byteAt page 14
 
--- self block at 16, generation at 24, count u16 at 32, payload length u16 at 34, UUID at 40, total u64 at 56
+-- section 4: u64 at 16, its own block
 abbrev pub selfBlock : List ℕ → ℕ
 selfBlock page = u64At page 16
 

@@ -34,7 +34,7 @@ blockTaken value block = bitSet value (block % allocationGroupBlocks)
 unfoldable pub takenBetween : List ℕ → ℕ → ℕ → Bool
 takenBetween value start end = every (λ i. blockTaken value (start + i)) (end - start)
 
--- each block of the group that can never be allocated is taken
+-- each block of two ranges is taken
 abbrev pub allTaken : List ℕ → GroupBlocks → Bool
 allTaken value ranges = takenBetween value (ranges .«low_start») (ranges .«low_end») && takenBetween value (ranges .«high_start») (ranges .«high_end»)
 

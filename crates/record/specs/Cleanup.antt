@@ -18,7 +18,7 @@ use Rattle.volume.specs.Numbers.{sumFits}
 use Rattle.volume.specs.Blocks.{isNonreservedRun}
 use Rattle.catalog.specs.Keys.{validateOwnerId}
 
--- a key of the cleanup tree: its kind, a number of 8 bytes, and for a retirement the first block
+-- section 5: byte 0 of a key, the record's kind
 abbrev pub cleanupKind : List ℕ → ℕ
 cleanupKind key = byteAt key 0
 
@@ -30,7 +30,7 @@ cleanupNumber key = bigAt key 1
 abbrev pub cleanupBlock : List ℕ → ℕ
 cleanupBlock key = bigAt key 9
 
--- a retirement: the generation and the first block in the key, a count u32 and a reserved u32 in the value
+-- section 5: a generation that is not newer than the page, and a run of non-reserved blocks; the reserved field is 0
 unfoldable pub isRetirementRange : ℕ → ℕ → ℕ → ℕ → ℕ → ℕ → Bool
 isRetirementRange generation first count reserved blocks pageGeneration =
     not (eqb generation 0) && leb generation pageGeneration && not (eqb count 0) && eqb reserved 0 && isNonreservedRun first count blocks
@@ -52,7 +52,7 @@ retirementDemands key value blocks pageGeneration mode =
 unfoldable pub validateRetirement : List ℕ → List ℕ → ℕ → ℕ → Validation → Check
 validateRetirement key value blocks pageGeneration mode = demands (retirementDemands key value blocks pageGeneration mode)
 
--- a detached tree: the job in the key; the owner, the lowest and the highest kind, six zeros and the reference in the value
+-- section 5: a detached tree's lowest and highest kind, 1 to 4 and in order, and six zeros
 unfoldable pub isKindRange : List ℕ → Bool
 isKindRange value =
     leb 1 (byteAt value 8) && leb (byteAt value 8) 4 && (leb 1 (byteAt value 9) && leb (byteAt value 9) 4)

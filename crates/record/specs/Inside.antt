@@ -21,7 +21,7 @@ use Rattle.record.specs.Leaf.{catalogLeafDemands, catalogBlocks}
 abbrev pub fullByte : List ℕ → ℕ → ℕ → Bool
 fullByte value block left = eqb (block % 8) 0 && leb 8 left && eqb (byteAt value (block % allocationGroupBlocks / 8)) 255
 
--- a detached tree's demands, with its owners as one group
+-- a detached tree's job and owner
 unfoldable pub detachedOwners : List ℕ → List ℕ → Validation → Check
 detachedOwners key value mode = demands (detachedOwnerDemands key value mode)
 
@@ -33,15 +33,15 @@ detachedTreeGroups key value blocks pageGeneration mode =
     ∷ isKindRange value otherwise violationOf mode reason.invalidDetachedTreeKindRange
     ∷ notNewerDemands (refAt value 16) blocks pageGeneration mode
 
--- the kind and the length of a key in an internal page of the cleanup tree: a retirement's, and one that holds a job or an object
+-- the kind and the length of a retirement's key in an internal page of the cleanup tree
 abbrev pub isRetirementKey : ℕ → ℕ → Bool
 isRetirementKey kind length = eqb kind 1 && eqb length 17
 
--- a key that holds a job or an object
+-- those of a key that holds a job or an object
 abbrev pub isOwnerKey : ℕ → ℕ → Bool
 isOwnerKey kind length = (eqb kind 2 || eqb kind 3) && eqb length 9
 
--- a leaf record of the catalog, and a record that counts no blocks
+-- a leaf record of the catalog
 unfoldable pub catalogLeaf : List ℕ → List ℕ → ℕ → Validation → Number
 catalogLeaf key value blocks mode = outcome (catalogLeafDemands key value blocks mode) Number.Refused (Number.Value (catalogBlocks key value))
 

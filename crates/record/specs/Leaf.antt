@@ -46,7 +46,7 @@ catalogLeafDemands key value blocks mode =
 abbrev pub catalogBlocks : List ℕ → List ℕ → ℕ
 catalogBlocks key value = cond (eqb (keyKind key) 3) (extentCount value) 0
 
--- the demands of a leaf record, by the tree's kind, and the blocks that it counts
+-- section 5: what is asked of a leaf record, by the tree's kind
 abbrev pub leafDemands : TreeKind → List ℕ → List ℕ → ℕ → ℕ → Validation → List Demand
 leafDemands TreeKind.Catalog key value blocks pageGeneration mode = catalogLeafDemands key value blocks mode
 leafDemands TreeKind.Allocation key value blocks pageGeneration mode = passing (validateAllocationGroup key value blocks mode) ∷ []

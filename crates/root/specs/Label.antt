@@ -15,7 +15,7 @@ use Rattle.utf8.specs.Plain.{plain}
 use Rattle.root.specs.declared.Label.{Label}
 use Rattle.root.specs.declared.NewLabel.{NewLabel}
 
--- the texts `.` and `..`
+-- section 3: the text `.`
 abbrev pub dot : List ℕ
 dot = 0x2E ∷ []
 
@@ -49,7 +49,7 @@ noLabel = record { len = 0; bytes = replicate 255 0 }
 abbrev pub labelRefused : Error → NewLabel
 labelRefused e = record { answer = Refused e; label = noLabel }
 
--- `Label::new`
+-- section 3: what is asked of a label
 abbrev pub labelDemands : List ℕ → List Demand
 labelDemands text = isLabel text otherwise InvalidInput reason.invalidVolumeLabel ∷ []
 

@@ -26,7 +26,7 @@ use Rattle.root.specs.declared.Decoded.{Decoded}
 abbrev pub magic : List ℕ
 magic = 0x43 ∷ 0x46 ∷ 0x53 ∷ 0x58 ∷ 0x52 ∷ 0x4F ∷ 0x4F ∷ 0x54 ∷ []
 
--- the label's length, a u16 at 184; its bytes follow; then zeros to 4092
+-- section 3: u16 at 184, the label's length
 abbrev pub labelLength : List ℕ → ℕ
 labelLength s = u16At s 184
 
@@ -38,7 +38,7 @@ hasLabel s = not (eqb (labelLength s) 0)
 unfoldable pub labelText : List ℕ → List ℕ
 labelText s = part s 186 (labelLength s)
 
--- section 3: the bytes from there to the checksum
+-- section 3: the bytes behind it, to the checksum
 unfoldable pub labelPadding : List ℕ → List ℕ
 labelPadding s = part s (186 + labelLength s) (4092 - (186 + labelLength s))
 

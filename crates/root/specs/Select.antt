@@ -54,14 +54,14 @@ selection n r = record { answer = Passed; which = n; root = r }
 abbrev pub selectionRefused : Error → Selected
 selectionRefused e = record { answer = Refused e; which = 0; root = noRoot }
 
--- two: differing UUIDs class 3; equal generation but unequal roots class 3; else the higher generation, the first if equal
+-- section 3: of two, differing UUIDs are class 3, and so are equal generations of unequal roots
 abbrev pub pairDemands : Root → Root → List Demand
 pairDemands a b =
     sameBytes (a .uuid) (b .uuid) otherwise Corrupt reason.rootUuidsConflict
     ∷ (not (eqb (a .generation) (b .generation)) || sameRoot a b) otherwise Corrupt reason.sameGenerationRootsConflict
     ∷ []
 
--- section 3: of two roots the newer one, the first of two equal ones
+-- section 3: else the higher generation, the first if equal
 unfoldable pub selectPair : Root → Root → Selected
 selectPair a b = outcome (pairDemands a b) selectionRefused (cond (leb (b .generation) (a .generation)) (selection 1 a) (selection 2 b))
 
@@ -76,7 +76,7 @@ selectBy true true a b = selectPair a b
 abbrev pub selectRoot : MaybeRoot → MaybeRoot → Selected
 selectRoot a b = selectBy (a .present) (b .present) (a .root) (b .root)
 
--- `supported_root` turns class 3 into none and passes on the others
+-- a root that is there
 abbrev pub oneRoot : Root → MaybeRoot
 oneRoot r = record { present = true; root = r }
 
@@ -84,7 +84,7 @@ oneRoot r = record { present = true; root = r }
 abbrev pub none : MaybeRoot
 none = record { present = false; root = noRoot }
 
--- section 3: `supported_root`
+-- section 3: `supported_root` turns class 3 into none and passes on the others
 abbrev pub supportedRoot : Decoded → Supported
 supportedRoot d =
     cond (eqb (checkClass (d .answer)) 0) (record { answer = Passed; found = oneRoot (d .root) })

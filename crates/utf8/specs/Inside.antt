@@ -6,7 +6,7 @@ use lib.ListN.{take}
 use Rattle.utf8.specs.Rfc3629.{number}
 use Rattle.utf8.specs.Reading.{one, two, three, four}
 
--- how many bytes the character at the front has, 0 where none starts there
+-- how many bytes the character at the front has, 0 where none starts there: by its first three bytes and the rest
 abbrev pub charLen4 : ℕ → ℕ → ℕ → List ℕ → ℕ
 charLen4 a b c [] = 0
 charLen4 a b c (d ∷ s) = cond (four a b c d) 4 0

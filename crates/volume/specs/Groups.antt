@@ -21,7 +21,7 @@ unfoldable pub allocationGroupCount : ℕ → Number
 allocationGroupCount blocks =
     outcome (sumFits blocks (allocationGroupBlocks - 1) otherwise Corrupt reason.allocationGroupRange ∷ []) Number.Refused (Number.Value (groupsOf blocks))
 
--- the first block of a group, and the one past its last; both stop at the largest number
+-- the first block of a group, as far as 64 bits go
 abbrev pub groupStart : ℕ → ℕ
 groupStart group = min (group * allocationGroupBlocks) largest
 

@@ -81,7 +81,7 @@ recordDemands leaf mode own rest left previous total seen =
 
 -- ---- the walk
 
--- after a record with this number: the total, and the children's blocks
+-- a leaf's total after a record with this number
 abbrev pub nextTotal : Bool → ℕ → ℕ → ℕ
 nextTotal leaf total n = cond leaf (total + n) total
 
