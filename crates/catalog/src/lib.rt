@@ -55,13 +55,18 @@ fn is_entry_key(key: &[u8]) -> bool
     utf8::is_utf8(&key[9..])
 }
 
-// Whether a key has the form that its kind asks for.
+// Whether a key has the form that its kind asks for; no form is tried that is another kind's.
 fn is_catalog_key(key: &[u8]) -> bool
     ensures { λ r. ⌜ r ≡ isCatalogKey (now (key .entry)) ⌝ }
 {
     let kind = octets::byte_at(key, 8);
-    let n = key.len();
-    (kind == 1) & (n == 9) | is_entry_key(key) | ((kind == 3) | (kind == 4)) & (n == 17)
+    if kind == 1 {
+        return key.len() == 9;
+    }
+    if kind == 2 {
+        return is_entry_key(key);
+    }
+    ((kind == 3) | (kind == 4)) & (key.len() == 17)
 }
 
 // Check a catalog key; the record's kind.

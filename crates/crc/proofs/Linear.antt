@@ -67,7 +67,7 @@ pub stepByte-⊕ : (r s b c : ℕ) → stepByte (r ⊕ s) (b ⊕ c) ≡ stepByte
 unfolding stepByte
 stepByte-⊕ r s b c = ap (stepBits 8) (⊕-swap r s b c) ∙ stepBits-⊕ 8 (r ⊕ b) (s ⊕ c)
 
-eight-more : (n x : ℕ) → stepBits (8 * n) (stepBits 8 x) ≡ stepBits (8 * suc n) x
+pub eight-more : (n x : ℕ) → stepBits (8 * n) (stepBits 8 x) ≡ stepBits (8 * suc n) x
 eight-more n x = sym (stepBits-add 8 (8 * n) x) ∙ ap (λ (k : ℕ). stepBits k x) (omega arith)
 
 -- the register after a message is that after as many zero bytes, from the register with the message's number xored in

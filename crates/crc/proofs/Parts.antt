@@ -18,31 +18,7 @@ unfolding extend
 extend-one r bs i j e h =
     ap (extend r) (drop-cons bs i 0 h) ∙ ap (λ (k : ℕ). extend (stepByte r (getD bs i 0)) (drop k bs)) (sym e)
 
--- the eight bytes from i on, and then the rest
-extend-eight : (r : ℕ) (bs : List ℕ) (i : ℕ) → i + 8 ≤ length bs
-    → extend r (drop i bs)
-    ≡ extend
-    (extend r (getD bs i 0 ∷ getD bs (i + 1) 0 ∷ getD bs (i + 2) 0 ∷ getD bs (i + 3) 0
-    ∷ getD bs (i + 4) 0 ∷ getD bs (i + 5) 0 ∷ getD bs (i + 6) 0 ∷ getD bs (i + 7) 0 ∷ []))
-    (drop (i + 8) bs)
-unfolding extend
-extend-eight r bs i h =
-    extend-one _ bs i (i + 1) (omega arith) (omega arith)
-    ∙ extend-one _ bs (i + 1) (i + 2) (omega arith) (omega arith)
-    ∙ extend-one _ bs (i + 2) (i + 3) (omega arith) (omega arith)
-    ∙ extend-one _ bs (i + 3) (i + 4) (omega arith) (omega arith)
-    ∙ extend-one _ bs (i + 4) (i + 5) (omega arith) (omega arith)
-    ∙ extend-one _ bs (i + 5) (i + 6) (omega arith) (omega arith)
-    ∙ extend-one _ bs (i + 6) (i + 7) (omega arith) (omega arith)
-    ∙ extend-one _ bs (i + 7) (i + 8) (omega arith) (omega arith)
-
--- a turn of the loops over a message: w is the register after the whole, r that before the turn and s that after it
-pub turn-eight : {w s : ℕ} (r : ℕ) (bs : List ℕ) (i : ℕ) → w ≡ extend r (drop i bs) → 8 ≤ length bs - i
-    → s ≡ extend r (getD bs i 0 ∷ getD bs (i + 1) 0 ∷ getD bs (i + 2) 0 ∷ getD bs (i + 3) 0
-    ∷ getD bs (i + 4) 0 ∷ getD bs (i + 5) 0 ∷ getD bs (i + 6) 0 ∷ getD bs (i + 7) 0 ∷ [])
-    → w ≡ extend s (drop (i + 8) bs)
-turn-eight r bs i p h q = p ∙ extend-eight r bs i (omega arith) ∙ ap (λ (x : ℕ). extend x (drop (i + 8) bs)) (sym q)
-
+-- a turn of the loop over a message: w is the register after the whole, r that before the turn and s that after it
 pub turn-one : {w s : ℕ} (r : ℕ) (bs : List ℕ) (i : ℕ) → w ≡ extend r (drop i bs) → i < length bs → s ≡ stepByte r (getD bs i 0)
     → w ≡ extend s (drop (i + 1) bs)
 turn-one r bs i p h q = p ∙ extend-one r bs i (i + 1) (omega arith) h ∙ ap (λ (x : ℕ). extend x (drop (i + 1) bs)) (sym q)
@@ -52,7 +28,7 @@ unfolding extend
 turns-done {w} {r} bs i p h = sym (p ∙ ap (extend r) (drop-of-length-le bs h))
 
 -- k of n zero bytes, and then the rest
-extend-some : (r k n : ℕ) → k ≤ n → extend r (replicate n 0) ≡ extend (extend r (replicate k 0)) (replicate (n - k) 0)
+pub extend-some : (r k n : ℕ) → k ≤ n → extend r (replicate n 0) ≡ extend (extend r (replicate k 0)) (replicate (n - k) 0)
 extend-some r k n h =
     let e : n ≡ k + (n - k) = omega arith in
     ap (λ (m : ℕ). extend r (replicate m 0)) e

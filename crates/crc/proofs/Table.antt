@@ -66,7 +66,7 @@ bytes = count (λ n. n) 256 0
 unfoldable pub right : List ℕ → Bool
 right xs = let first = count (stepBits 8) 256 0 in follow (quick first) (bytes ++ xs) xs
 
-quick-is : (p : ℕ) → quick (count (stepBits 8) 256 0) p ≡ stepBits 8 p
+pub quick-is : (p : ℕ) → quick (count (stepBits 8) 256 0) p ≡ stepBits 8 p
 quick-is p =
     ap (λ (x : ℕ). (p / 2 ^ 8) ⊕ x)
     (count-at (stepBits 8) 256 0 (p % 2 ^ 8) (mod-lt p (pow-pos 8)) ∙ ap (stepBits 8) (zero-add (p % 2 ^ 8)))

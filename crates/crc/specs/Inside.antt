@@ -1,9 +1,26 @@
--- What private functions promise: messages as numbers. No public promise rests on these.
-use Prim.Native.Nat.{ℕ, _*_, _^_}
+-- What private functions promise: messages as numbers, and lanes. No public promise rests on these.
+use Prim.Native.Nat.{ℕ, _*_, _^_, _<_}
+use mathlib.Core.Path.{_≡_}
 use mathlib.Core.List.{List, [], _∷_}
-use Rattle.crc.specs.Crc.{_⊕_}
+use lib.ListN.{getD}
+use Rattle.crc.specs.Crc.{_⊕_, stepBits}
 
 -- a message as one number, the first byte lowest
 unfoldable pub number : List ℕ → ℕ
 number [] = 0
 number (b ∷ bs) = b ⊕ number bs * 2 ^ 8
+
+-- the bytes of a lane, and of a round of three
+abbrev pub lane : ℕ
+lane = 1336
+
+abbrev pub round : ℕ
+round = 4008
+
+-- the register after as many zero bytes as a lane has
+unfoldable pub pastLane : ℕ → ℕ
+pastLane register = stepBits (8 * lane) register
+
+-- word k is the register 2 ^ k after the zero bytes of a lane
+unfoldable pub IsLaneWords : List ℕ → Type 0
+IsLaneWords m = (k : ℕ) → k < 32 → getD m k 0 ≡ pastLane (2 ^ k)

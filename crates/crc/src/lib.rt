@@ -1,21 +1,29 @@
-// CRC-32C, eight bytes a step by tables. specs/Crc.antt says what it is, bit by bit.
+// CRC-32C, eight bytes a step by tables, and three lanes of steps side by side. specs/Crc.antt says what it is, bit by bit.
+mod lane_table;
 mod words;
 
 ghost use mathlib.Core.Path.{_≡_};
 ghost use mathlib.Core.List.{[], _∷_};
-ghost use Prim.Native.Nat.{_+_, _*_, _%_, _^_, _<_, _≤_};
-ghost use lib.ListN.{length, drop, replicate};
+ghost use Prim.Native.Nat.{_+_, _*_, _/_, _%_, _^_, _<_, _≤_};
+ghost use lib.ListN.{length, take, drop, replicate};
 ghost use Rattle.octets.specs.Number.{littleBytes};
-ghost use Rattle.crc.specs.Crc.{stepBits, stepByte, extend, crc32c as crc32cOf, crc32cWithZero};
+ghost use Rattle.crc.specs.Crc.{_⊕_, stepBits, stepByte, extend, crc32c as crc32cOf, crc32cWithZero};
 ghost use Rattle.crc.specs.DataUnit.{unitBytes, dataUnit, dataUnitCrc};
-ghost use Rattle.crc.specs.Inside.{number};
+ghost use Rattle.crc.specs.Inside.{number, lane, round, pastLane, IsLaneWords};
 ghost use Rattle.crc.specs.Tables.{IsTables};
 use error::Error;
 use error::Number;
+use lane_table::LANE_WORDS;
 use words::TABLES;
 
 // Bytes in one unit of a file's data.
 pub const UNIT_BYTES: usize = 65_536;
+
+// Bytes in one of the three lanes that are summed side by side. What a block's word covers in one piece is a round of them and little more.
+const LANE: usize = 1_336;
+
+// Bytes in a round of three lanes.
+const ROUND: usize = 4_008;
 
 // The reason of a string that isn't in the list of reasons.
 const UNLISTED: u16 = 0;
@@ -92,29 +100,103 @@ fn tail_with(t: &[u32; 2048], crc: u32, bytes: &[u8], from: usize) -> u32
     r
 }
 
-// The register `crc` after `bytes`, by tables that the caller holds.
+// The register `crc` after the eight bytes from `i` on.
+fn step_at(t: &[u32; 2048], crc: u32, bytes: &[u8], i: usize) -> u32
+    requires { ⌜ IsTables (now t) × (i + 8 ≤ length (now bytes)) ⌝ }
+    ensures { λ r. ⌜ r ≡ extend crc (take 8 (drop i (now (bytes .entry)))) ⌝ }
+{
+    step8(
+        t,
+        crc,
+        bytes[i],
+        bytes[i + 1],
+        bytes[i + 2],
+        bytes[i + 3],
+        bytes[i + 4],
+        bytes[i + 5],
+        bytes[i + 6],
+        bytes[i + 7],
+    )
+}
+
+// The register `crc` after the bytes from `from` on, eight at a time.
+fn lane_with(t: &[u32; 2048], crc: u32, bytes: &[u8], from: usize) -> u32
+    requires { ⌜ IsTables (now t) × (from ≤ length (now bytes)) ⌝ }
+    ensures { λ r. ⌜ r ≡ extend crc (drop from (now (bytes .entry))) ⌝ }
+{
+    let mut r = crc;
+    let mut i = from;
+    while 8 <= bytes.len() - i {
+        r = step_at(t, r, bytes, i);
+        i += 8;
+    }
+    tail_with(t, r, bytes, i)
+}
+
+// The words of the join. One function names them, as `tables` does.
+fn lane_words() -> [u32; 32]
+    ensures { λ r. ⌜ IsLaneWords r ⌝ }
+{
+    LANE_WORDS
+}
+
+// `r`, and `word` in it where bit `k` of `crc` is 1.
+fn with_bit(crc: u32, k: usize, word: u32, r: u32) -> u32
+    requires { ⌜ k < 32 ⌝ }
+    ensures { λ s. ⌜ s ≡ r ⊕ (crc / 2 ^ k % 2 * word) ⌝ }
+{
+    if (crc >> k) % 2 == 0 {
+        return r;
+    }
+    r ^ word
+}
+
+// The register after two lanes: `first` after the first, and `second` after the other from a register of 0.
+fn join(m: &[u32; 32], first: u32, second: u32) -> u32
+    requires { ⌜ IsLaneWords (now m) ⌝ }
+    ensures { λ r. ⌜ r ≡ pastLane first ⊕ second ⌝ }
+{
+    let mut r = second;
+    let mut k = 0;
+    while k < 32 {
+        r = with_bit(first, k, m[k], r);
+        k += 1;
+    }
+    r
+}
+
+// The register `crc` after a round of three lanes from `from` on. No lane waits for another, so they are summed side by side.
+fn round_with(t: &[u32; 2048], crc: u32, bytes: &[u8], from: usize) -> u32
+    requires { ⌜ IsTables (now t) × (from + round ≤ length (now bytes)) ⌝ }
+    ensures { λ r. ⌜ r ≡ extend crc (take round (drop from (now (bytes .entry)))) ⌝ }
+{
+    let mut a = crc;
+    let mut b = 0;
+    let mut c = 0;
+    let mut i = 0;
+    while i < LANE {
+        a = step_at(t, a, bytes, from + i);
+        b = step_at(t, b, bytes, from + LANE + i);
+        c = step_at(t, c, bytes, from + 2 * LANE + i);
+        i += 8;
+    }
+    let m = lane_words();
+    let ab = join(&m, a, b);
+    join(&m, ab, c)
+}
+
+// The register `crc` after `bytes`, by tables that the caller holds: rounds of three lanes, and then one lane.
 fn extend_with(t: &[u32; 2048], crc: u32, bytes: &[u8]) -> u32
     requires { ⌜ IsTables (now t) ⌝ }
     ensures { λ r. ⌜ r ≡ extend crc (now (bytes .entry)) ⌝ }
 {
     let mut r = crc;
     let mut i = 0;
-    while 8 <= bytes.len() - i {
-        r = step8(
-            t,
-            r,
-            bytes[i],
-            bytes[i + 1],
-            bytes[i + 2],
-            bytes[i + 3],
-            bytes[i + 4],
-            bytes[i + 5],
-            bytes[i + 6],
-            bytes[i + 7],
-        );
-        i += 8;
+    while ROUND <= bytes.len() - i {
+        r = round_with(t, r, bytes, i);
+        i += ROUND;
     }
-    tail_with(t, r, bytes, i)
+    lane_with(t, r, bytes, i)
 }
 
 // The register `crc` after `count` zero bytes, one at a time.
@@ -131,8 +213,8 @@ fn zeros_tail(t: &[u32; 2048], crc: u32, count: usize) -> u32
     r
 }
 
-// The register `crc` after `count` zero bytes, by tables that the caller holds.
-fn zeros_with(t: &[u32; 2048], crc: u32, count: usize) -> u32
+// The register `crc` after `count` zero bytes, eight at a time.
+fn zeros_rest(t: &[u32; 2048], crc: u32, count: usize) -> u32
     requires { ⌜ IsTables (now t) ⌝ }
     ensures { λ r. ⌜ r ≡ extend crc (replicate count 0) ⌝ }
 {
@@ -143,6 +225,28 @@ fn zeros_with(t: &[u32; 2048], crc: u32, count: usize) -> u32
         left -= 8;
     }
     zeros_tail(t, r, left)
+}
+
+// The register `crc` after the zero bytes of a lane.
+fn past_lane(crc: u32) -> u32
+    ensures { λ r. ⌜ r ≡ pastLane crc ⌝ }
+{
+    let m = lane_words();
+    join(&m, crc, 0)
+}
+
+// The register `crc` after `count` zero bytes, by tables that the caller holds: as many as a lane has at once, and then eight.
+fn zeros_with(t: &[u32; 2048], crc: u32, count: usize) -> u32
+    requires { ⌜ IsTables (now t) ⌝ }
+    ensures { λ r. ⌜ r ≡ extend crc (replicate count 0) ⌝ }
+{
+    let mut r = crc;
+    let mut left = count;
+    while LANE <= left {
+        r = past_lane(r);
+        left -= LANE;
+    }
+    zeros_rest(t, r, left)
 }
 
 // The low byte of a number.

@@ -2,23 +2,22 @@
 use mathlib.Core.Path.{_≡_, refl, sym, _∙_, ap, ap₂}
 use mathlib.Core.Bool.{Bool, false}
 use mathlib.Core.List.{List, [], _∷_, _++_}
-use Prim.Native.Nat.{ℕ, suc, _+_, _-_, _*_, _^_, _≤_, _<_}
+use Prim.Native.Nat.{ℕ, suc, _+_, _*_, _^_, _≤_, _<_, min}
 use native.Mathlib.Nat.{suc-inj, suc-mul, pow-succ', mul-le-mul-right}
 use native.Mathlib.Decide.{decLt}
 use native.Mathlib.Omega.{arith}
 use lib.Dec.{lit<, ltb}
 use borrow.Author.Tests.{lt-ltb, le-ltb}
-use lib.ListN.{length, drop, take-append-drop}
-use lib.Seq.{drop-drop}
+use lib.ListN.{length, take, drop, take-append-drop}
+use lib.Seq.{drop-drop, take-add, take-take}
 use Rattle.octets.specs.Bytes.{Bytes, byteAt, part}
-use Rattle.octets.specs.Number.{big}
+use Rattle.octets.specs.Number.{little, big, field, u64At}
 use Rattle.octets.specs.Order.{order, isGreater}
-use Rattle.octets.specs.Inside.{FrontSays}
-use Rattle.octets.specs.declared.Front.{Front}
+use Rattle.octets.specs.Inside.{Decides}
 use Rattle.octets.specs.declared.Order.the-variants.{Less, Greater}
-use Rattle.octets.proofs.Digits.{bytes-part}
+use Rattle.octets.proofs.Digits.{bytes-part, field-same}
 use Rattle.octets.proofs.Join.{part-length}
-use Rattle.octets.proofs.OrderLaws.{less-at, greater-at, less-end, equal-end, less-by, less-on, order-flip, order-front}
+use Rattle.octets.proofs.OrderLaws.{less-at, greater-at, less-end, equal-end, greater-end, less-by, less-on, order-flip, order-behind}
 
 bytes-tail : {x : ℕ} {l : List ℕ} → Bytes (x ∷ l) → Bytes l
 bytes-tail h = record { below = λ i. h .below (suc i) }
@@ -88,39 +87,6 @@ big-same (x ∷ xs) (y ∷ ys) n p q e = ap₂ _∷_ same (big-same xs ys (suc-i
     rest : big xs ≡ big ys
     rest = omega (arith, m, ap (λ (z : ℕ). z * 256 ^ length xs) same)
 
--- ---- eight bytes at a place of both strings
-module _ (a b : List ℕ) (i : ℕ) (known : (k : ℕ) → byteAt a k < 256) (known′ : (k : ℕ) → byteAt b k < 256) (fits : 8 ≤ length a - i) (fits′ : 8 ≤ length b - i) where
-  from-here : (s : List ℕ) → drop i s ≡ part s i 8 ++ drop (i + 8) s
-  from-here s = sym (take-append-drop 8 (drop i s)) ∙ rw (drop-drop 8 i s)
-
-  as-many : length (part a i 8) ≡ length (part b i 8)
-  as-many = part-length a i 8 (omega arith) ∙ sym (part-length b i 8 (omega arith))
-
-  bytes-a : Bytes (part a i 8)
-  bytes-a = bytes-part a i 8 (record { below = known })
-
-  bytes-b : Bytes (part b i 8)
-  bytes-b = bytes-part b i 8 (record { below = known′ })
-
-  module _ (x y : ℕ) (is : x ≡ big (part a i 8)) (is′ : y ≡ big (part b i 8)) where
-    pub group-less : x < y → order (drop i a) (drop i b) ≡ Less
-    group-less l = rw (from-here a, from-here b) (less-big (drop (i + 8) a) (drop (i + 8) b) (part a i 8) (part b i 8) as-many bytes-a bytes-b (omega arith))
-
-    pub group-greater : y < x → order (drop i a) (drop i b) ≡ Greater
-    group-greater l = rw (from-here a, from-here b) (order-flip (part b i 8 ++ drop (i + 8) b) (part a i 8 ++ drop (i + 8) a) (less-big (drop (i + 8) b) (drop (i + 8) a) (part b i 8) (part a i 8) (sym as-many) bytes-b bytes-a (omega arith)))
-
-    pub group-same : y ≤ x → x ≤ y → order (drop i a) (drop i b) ≡ order (drop (i + 8) a) (drop (i + 8) b)
-    group-same l m =
-        let e : part a i 8 ≡ part b i 8 = big-same (part a i 8) (part b i 8) as-many bytes-a bytes-b (omega arith) in
-        rw (from-here a, from-here b, e) (order-front (part b i 8) (drop (i + 8) a) (drop (i + 8) b))
-
-    pub group-differs : (x ≡ y → ⊥) → ltb y x ≡ isGreater (order (drop i a) (drop i b))
-    group-differs n = go (decLt y x)
-      where
-        go : Dec (y < x) → ltb y x ≡ isGreater (order (drop i a) (drop i b))
-        go (yes h) = rw (lt-ltb y x h, group-greater h)
-        go (no h) = rw (le-ltb y x (omega arith), group-less (omega arith))
-
 -- ---- one byte at a place of both strings
 pub byte-differs : (a b : List ℕ) (i : ℕ) → i < length a → i < length b → (byteAt a i ≡ byteAt b i → ⊥) → ltb (byteAt b i) (byteAt a i) ≡ isGreater (order (drop i a) (drop i b))
 byte-differs a b i p q n = go (decLt (byteAt b i) (byteAt a i))
@@ -136,10 +102,79 @@ not-above-end a b i p = go (decLt i (length b))
     go (yes h) = rw (less-end a b i p h)
     go (no h) = rw (equal-end a b i p (omega arith))
 
--- ---- what a comparison of the first groups says, by its answer
-module _ (a b : List ℕ) (r : Front) (says : FrontSays a b r) where
-  pub front-decided : (t : Bool) → r ≡ Front.Decided t → t ≡ isGreater (order a b)
-  front-decided t e = rw e at says
+-- strings that are the same up to a place, and in the eight bytes there, are the same behind those
+pub eight-more : (a b : List ℕ) (i : ℕ) → take i a ≡ take i b → part a i 8 ≡ part b i 8 → take (i + 8) a ≡ take (i + 8) b
+eight-more a b i p q = take-add i 8 a ∙ ap₂ _++_ p q ∙ sym (take-add i 8 b)
 
-  pub front-same : (i : ℕ) → r ≡ Front.Same i → FrontSays a b (Front.Same i)
-  front-same i e = rw e at says
+-- eight bytes that differ, behind others that don't, decide the order
+pub differ-here : {x y : ℕ} (a b : List ℕ) (i : ℕ) → i + 8 ≤ length a → i + 8 ≤ length b → take i a ≡ take i b
+    → x ≡ u64At a i → y ≡ u64At b i → (x ≡ y → ⊥) → Decides a b i
+unfolding field
+differ-here a b i p q e ex ey n =
+    record { in-a = p; in-b = q; before = e; end = λ s. absurd (n (ex ∙ ap (λ (l : List ℕ). little l) s ∙ sym ey)) }
+
+-- where those before the shorter string's last eight are the same, the last eight decide it
+pub last-eight : (a b : List ℕ) (i last : ℕ) → take i a ≡ take i b → last ≤ i → last + 8 ≡ min (length a) (length b) → Decides a b last
+last-eight a b i last e l m =
+    record {
+      in-a = omega arith;
+      in-b = omega arith;
+      before = sym (take-take last i a l) ∙ ap (take last) e ∙ take-take last i b l;
+      end = λ s. m;
+    }
+
+-- ---- eight bytes at a place of both strings
+module _ (a b : List ℕ) (i : ℕ) (known : (k : ℕ) → byteAt a k < 256) (known′ : (k : ℕ) → byteAt b k < 256) (fits : i + 8 ≤ length a) (fits′ : i + 8 ≤ length b) where
+  from-here : (s : List ℕ) → drop i s ≡ part s i 8 ++ drop (i + 8) s
+  from-here s = sym (take-append-drop 8 (drop i s)) ∙ rw (drop-drop 8 i s)
+
+  as-many : length (part a i 8) ≡ length (part b i 8)
+  as-many = part-length a i 8 fits ∙ sym (part-length b i 8 fits′)
+
+  bytes-a : Bytes (part a i 8)
+  bytes-a = bytes-part a i 8 (record { below = known })
+
+  bytes-b : Bytes (part b i 8)
+  bytes-b = bytes-part b i 8 (record { below = known′ })
+
+  less : big (part a i 8) < big (part b i 8) → order (drop i a) (drop i b) ≡ Less
+  less l = rw (from-here a, from-here b) (less-big (drop (i + 8) a) (drop (i + 8) b) (part a i 8) (part b i 8) as-many bytes-a bytes-b l)
+
+  greater : big (part b i 8) < big (part a i 8) → order (drop i a) (drop i b) ≡ Greater
+  greater l =
+      rw (from-here a, from-here b)
+      (order-flip (part b i 8 ++ drop (i + 8) b) (part a i 8 ++ drop (i + 8) a)
+      (less-big (drop (i + 8) b) (drop (i + 8) a) (part b i 8) (part a i 8) (sym as-many) bytes-b bytes-a l))
+
+  -- groups that differ are ordered as their big-endian numbers are
+  group-differs : (part a i 8 ≡ part b i 8 → ⊥) → ltb (big (part b i 8)) (big (part a i 8)) ≡ isGreater (order (drop i a) (drop i b))
+  group-differs n = go (big (part a i 8)) (big (part b i 8)) refl refl (decLt (big (part b i 8)) (big (part a i 8))) (decLt (big (part a i 8)) (big (part b i 8)))
+    where
+      go : (x y : ℕ) → x ≡ big (part a i 8) → y ≡ big (part b i 8) → Dec (y < x) → Dec (x < y) → ltb y x ≡ isGreater (order (drop i a) (drop i b))
+      go x y p q (yes h) t = rw (lt-ltb y x h, greater (omega arith))
+      go x y p q (no h) (yes l) = rw (le-ltb y x (omega arith), less (omega arith))
+      go x y p q (no h) (no l) = absurd (n (big-same (part a i 8) (part b i 8) as-many bytes-a bytes-b (omega arith)))
+
+  -- groups are the same exactly where their stored numbers are
+  pub group-same : u64At a i ≡ u64At b i → part a i 8 ≡ part b i 8
+  group-same e = field-same a b i 8 (record { below = known }) (record { below = known′ }) fits fits′ e
+
+  module _ (d : Decides a b i) where
+    pub decided : {x y p q : ℕ} → x ≡ u64At a i → y ≡ u64At b i → (x ≡ y → ⊥) → p ≡ big (part b i 8) → q ≡ big (part a i 8) → ltb p q ≡ isGreater (order a b)
+    unfolding field
+    decided ex ey n ep eq =
+        ap₂ ltb ep eq
+        ∙ group-differs (λ e. n (ex ∙ ap (λ (l : List ℕ). little l) e ∙ sym ey))
+        ∙ ap isGreater (order-behind a b i (d .before))
+
+    pub ended : u64At a i ≡ u64At b i → ltb (length b) (length a) ≡ isGreater (order a b)
+    ended e =
+        go (decLt (length b) (length a)) (d .end same) ∙ ap isGreater (order-behind a b (i + 8) (eight-more a b i (d .before) same))
+      where
+        same : part a i 8 ≡ part b i 8
+        same = group-same e
+
+        go : Dec (length b < length a) → i + 8 ≡ min (length a) (length b)
+            → ltb (length b) (length a) ≡ isGreater (order (drop (i + 8) a) (drop (i + 8) b))
+        go (yes h) m = rw (lt-ltb _ _ h, greater-end a b (i + 8) (omega arith) (omega arith))
+        go (no h) m = rw (le-ltb (length b) (length a) (omega arith), not-above-end a b (i + 8) (omega arith))

@@ -1,5 +1,5 @@
 -- The order of byte strings: from an index on, by the first bytes, and as an order.
-use mathlib.Core.Path.{_≡_, refl, sym}
+use mathlib.Core.Path.{_≡_, refl, sym, ap, ap₂, _∙_}
 use mathlib.Core.Bool.{Bool, true, false, cond}
 use mathlib.Core.Logic.{_⊎_, inl, inr, ⊎-elim}
 use mathlib.Core.List.{List, [], _∷_, _++_}
@@ -8,7 +8,7 @@ use native.Mathlib.Nat.{le-refl}
 use native.Mathlib.Omega.{arith}
 use native.Mathlib.Numerals.{add-one}
 use lib.Dec.{ltb}
-use lib.ListN.{length, getD, drop, drop-of-length-le}
+use lib.ListN.{length, getD, take, drop, drop-of-length-le, take-append-drop}
 use lib.Seq.{drop-cons}
 use borrow.Author.Tests.{lt-ltb, le-ltb, ltb-true, ltb-false}
 use Rattle.octets.specs.Order.{order, isGreater, isLess}
@@ -151,6 +151,14 @@ order-front [] r t = refl
 order-front (x ∷ a) r t = rw (le-ltb x x (le-refl x)) (order-front a r t)
 
 -- seen from the other string
+-- strings that are the same up to a place are ordered as they are from there on
+pub order-behind : (a b : List ℕ) (n : ℕ) → take n a ≡ take n b → order (drop n a) (drop n b) ≡ order a b
+order-behind a b n e =
+    sym
+    (ap₂ order (sym (take-append-drop n a)) (sym (take-append-drop n b))
+    ∙ ap (λ (l : List ℕ). order (l ++ drop n a) (take n b ++ drop n b)) e
+    ∙ order-front (take n b) (drop n a) (drop n b))
+
 pub order-mirror : (a b : List ℕ) → isGreater (order b a) ≡ isLess (order a b)
 unfolding order
 order-mirror [] [] = refl

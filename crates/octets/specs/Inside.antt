@@ -1,12 +1,13 @@
 -- What private functions promise. No public promise rests on these.
 use mathlib.Core.Path.{_≡_}
-use Prim.Native.Nat.{ℕ, _≤_}
+use Prim.Native.Nat.{ℕ, _+_, _≤_, min}
 use mathlib.Core.List.{List}
-use lib.ListN.{length, drop}
-use Rattle.octets.specs.Order.{order, isGreater}
-use Rattle.octets.specs.declared.Front.{Front}
+use lib.ListN.{length, take}
+use Rattle.octets.specs.Bytes.{part}
 
--- what a comparison of the first groups of bytes says: whether the first string is above the second, or that they are ordered as what is left of them
-abbrev pub FrontSays : List ℕ → List ℕ → Front → Type 0
-FrontSays a b (Front.Decided r) = r ≡ isGreater (order a b)
-FrontSays a b (Front.Same i) = (i ≤ length a) × (i ≤ length b) × (order (drop i a) (drop i b) ≡ order a b)
+-- the eight bytes at a place decide the order of two strings: before them the strings are the same, and where they are the same too, the shorter string ends with them
+pub record Decides (a b : List ℕ) (at : ℕ) : Type 0 where
+  pub in-a : at + 8 ≤ length a
+  pub in-b : at + 8 ≤ length b
+  pub before : take at a ≡ take at b
+  pub end : part a at 8 ≡ part b at 8 → at + 8 ≡ min (length a) (length b)

@@ -6,7 +6,7 @@ ghost use lib.ListN.{length, drop};
 ghost use Rattle.octets.specs.Bytes.{byteAt, part, IsPart, IsRest, paddedTo, Laid, allZero, sameBytes, startsWith};
 ghost use Rattle.octets.specs.Number.{big, field, u16At, u32At, u64At, bigAt};
 ghost use Rattle.octets.specs.Order.{order, isGreater};
-ghost use Rattle.octets.specs.Inside.{FrontSays};
+ghost use Rattle.octets.specs.Inside.{Decides};
 ghost use Rattle.octets.specs.Reads.{readOf, number16, number32};
 use error::Error;
 use error::Number;
@@ -282,12 +282,6 @@ pub fn compare(a: &[u8], b: &[u8]) -> Order
     }
 }
 
-// What the first whole groups of eight bytes of two strings say: whether the first is above the second, or that so many bytes are the same.
-enum Front {
-    Decided(bool),
-    Same(usize),
-}
-
 // The lesser of two lengths.
 pub fn lesser(a: usize, b: usize) -> usize
     ensures { λ r. ⌜ r ≡ min a b ⌝ }
@@ -295,29 +289,11 @@ pub fn lesser(a: usize, b: usize) -> usize
     if a < b { a } else { b }
 }
 
-// Eight bytes a turn: their big-endian numbers are ordered as the bytes are.
-fn above_groups(a: &[u8], b: &[u8]) -> Front
-    ensures { λ r. ⌜ FrontSays (now (a .entry)) (now (b .entry)) r ⌝ }
+// Whether the first string is above the second, byte by byte.
+fn above_bytes(a: &[u8], b: &[u8]) -> bool
+    ensures { λ r. ⌜ r ≡ isGreater (order (now (a .entry)) (now (b .entry))) ⌝ }
 {
-    let shorter = lesser(a.len(), b.len());
     let mut i = 0;
-    while 8 <= shorter - i {
-        let x = be64(a, i);
-        let y = be64(b, i);
-        if x != y {
-            return Front::Decided(y < x);
-        }
-        i += 8;
-    }
-    Front::Same(i)
-}
-
-// The same from a place on, byte by byte.
-fn above_from(a: &[u8], b: &[u8], start: usize) -> bool
-    requires { ⌜ (start ≤ length (now a)) × (start ≤ length (now b)) ⌝ }
-    ensures { λ r. ⌜ r ≡ isGreater (order (drop start (now (a .entry))) (drop start (now (b .entry)))) ⌝ }
-{
-    let mut i = start;
     while i < a.len() {
         if b.len() <= i {
             return true;
@@ -330,14 +306,41 @@ fn above_from(a: &[u8], b: &[u8], start: usize) -> bool
     false
 }
 
+// Where eight bytes decide the order: the first that differ of those at 0, 8, 16 and so on, or the last eight of the shorter string.
+fn deciding_group(a: &[u8], b: &[u8], last: usize) -> usize
+    requires { ⌜ last + 8 ≡ min (length (now a)) (length (now b)) ⌝ }
+    ensures { λ r. ⌜ Decides (now (a .entry)) (now (b .entry)) r ⌝ }
+{
+    let mut i = 0;
+    while i < last {
+        if le64(a, i) != le64(b, i) {
+            return i;
+        }
+        i += 8;
+    }
+    last
+}
+
+// Whether the first string is above the second, by the eight bytes that decide it: as big-endian numbers they are ordered as bytes are.
+fn above_group(a: &[u8], b: &[u8], at: usize) -> bool
+    requires { ⌜ Decides (now a) (now b) at ⌝ }
+    ensures { λ r. ⌜ r ≡ isGreater (order (now (a .entry)) (now (b .entry))) ⌝ }
+{
+    if le64(a, at) != le64(b, at) {
+        return be64(b, at) < be64(a, at);
+    }
+    b.len() < a.len()
+}
+
 // Whether the first string is above the second. No branch goes by which of two differing groups is the larger: of sought keys that can't be foretold.
 pub fn is_above(a: &[u8], b: &[u8]) -> bool
     ensures { λ r. ⌜ r ≡ isGreater (order (now (a .entry)) (now (b .entry))) ⌝ }
 {
-    match above_groups(a, b) {
-        Front::Decided(above) => above,
-        Front::Same(i) => above_from(a, b, i),
+    let shorter = lesser(a.len(), b.len());
+    if shorter < 8 {
+        return above_bytes(a, b);
     }
+    above_group(a, b, deciding_group(a, b, shorter - 8))
 }
 
 // Lays bytes into a lent buffer from a place on, and says where they end; what the buffer has no room for is left out.

@@ -4,7 +4,7 @@ use Prim.Native.Nat.{_-_, _≤_}
 use lib.ListN.{length, drop}
 use borrow.Author.Needs.{needs}
 use Rattle.crc.specs.Crc.{extend}
-use Rattle.crc.proofs.Parts.{turn-eight}
+use Rattle.crc.proofs.Lanes.{turn-some}
 use Rattle.crc.proofs.extend_with.Statement.{statement}
 use Rattle.crc.proofs.extend_with.Tie as tie
 
@@ -18,7 +18,7 @@ loop-holds : tie.Need-loop-holds Inv-loop μ-loop
 loop-holds c = (search needs, refl)
 
 loop-again : tie.Need-loop-again Inv-loop μ-loop
-loop-again c = (search needs, search turn-eight)
+loop-again c = (search needs, search turn-some)
 
 returns : tie.Need-returns Inv-loop μ-loop
 returns c = cc
@@ -30,21 +30,6 @@ extend-with-spec =
     Inv-loop
     μ-loop
     loop-holds
-    (λ c. search needs)
-    (λ c. search needs)
-    (λ c. search needs)
-    (λ c. search needs)
-    (λ c. search needs)
-    (λ c. search needs)
-    (λ c. search needs)
-    (λ c. search needs)
-    (λ c. search needs)
-    (λ c. search needs)
-    (λ c. search needs)
-    (λ c. search needs)
-    (λ c. search needs)
-    (λ c. search needs)
-    (λ c. search needs)
     (λ c. search needs)
     (λ c κs. search needs)
     (λ c. search needs)

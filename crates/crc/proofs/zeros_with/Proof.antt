@@ -3,7 +3,7 @@ use mathlib.Core.Path.{_≡_, refl}
 use lib.ListN.{replicate}
 use borrow.Author.Needs.{needs}
 use Rattle.crc.specs.Crc.{extend}
-use Rattle.crc.proofs.Parts.{zeros-eight}
+use Rattle.crc.proofs.Lanes.{zeros-lane}
 use Rattle.crc.proofs.zeros_with.Statement.{statement}
 use Rattle.crc.proofs.zeros_with.Tie as tie
 
@@ -17,7 +17,7 @@ loop-holds : tie.Need-loop-holds Inv-loop μ-loop
 loop-holds c = refl
 
 loop-again : tie.Need-loop-again Inv-loop μ-loop
-loop-again c = search zeros-eight
+loop-again c = search zeros-lane
 
 returns : tie.Need-returns Inv-loop μ-loop
 returns c = cc

@@ -6,14 +6,14 @@ use lib.ListN.{length, drop}
 use Rattle.octets.specs.Order.{order, isGreater}
 use Rattle.octets.proofs.OrderLaws.{greater-end, same-at}
 use Rattle.octets.proofs.BigOrder.{byte-differs, not-above-end}
-use Rattle.octets.proofs.above_from.Statement.{statement}
-use Rattle.octets.proofs.above_from.Tie as tie
+use Rattle.octets.proofs.above_bytes.Statement.{statement}
+use Rattle.octets.proofs.above_bytes.Tie as tie
 
 abbrev Inv-loop : tie.InvT-loop
-Inv-loop a b start i₀ i = (i ≤ length a) × (i ≤ length b) × (order (drop i a) (drop i b) ≡ order (drop start a) (drop start b))
+Inv-loop a b i₀ i = (i ≤ length a) × (i ≤ length b) × (order (drop i a) (drop i b) ≡ order a b)
 
 abbrev μ-loop : tie.MeasureT-loop
-μ-loop a b start i₀ i = length a - i
+μ-loop a b i₀ i = length a - i
 
 loop-holds : tie.Need-loop-holds Inv-loop μ-loop
 loop-holds c = (omega arith, omega arith, refl)
@@ -38,8 +38,8 @@ returns-3 c =
     let l = c .before in
     sym (not-above-end (l .before .args .a .now) (l .before .args .b .now) (l .loop .i) (omega arith)) ∙ ap isGreater (l .loop .inv .2)
 
-pub above-from-spec : {M : Type 1} → statement M
-above-from-spec =
+pub above-bytes-spec : {M : Type 1} → statement M
+above-bytes-spec =
     tie.close
     (tie.spec
     Inv-loop
