@@ -365,10 +365,16 @@ fn is_extent_range(logical: u64, physical: u64, count: u64, reserved: u32, block
     requires { ⌜ sumFits logical count ≡ true ⌝ }
     ensures { λ r. ⌜ r ≡ isExtentRange logical physical count reserved blocks ⌝ }
 {
-    (count != 0)
-        & (reserved == 0)
-        & (logical + count <= MAX_LOGICAL_BLOCK)
-        & volume::is_nonreserved_run(physical, count, blocks)
+    if count == 0 {
+        return false;
+    }
+    if reserved != 0 {
+        return false;
+    }
+    if MAX_LOGICAL_BLOCK < logical + count {
+        return false;
+    }
+    volume::is_nonreserved_run(physical, count, blocks)
 }
 
 // The three refusals of an extent's range, over its fields; else its count.

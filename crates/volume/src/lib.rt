@@ -120,8 +120,11 @@ pub fn is_nonreserved_block(block: u64, blocks: u64) -> bool
 pub fn is_nonreserved_run(first: u64, count: u64, blocks: u64) -> bool
     ensures { λ r. ⌜ r ≡ isNonreservedRun first count blocks ⌝ }
 {
+    if !is_nonreserved_block(first, blocks) {
+        return false;
+    }
     let end = saturating_sub(blocks, RESERVED_BLOCKS);
-    is_nonreserved_block(first, blocks) & (count <= saturating_sub(end, first))
+    count <= saturating_sub(end, first)
 }
 
 // Whether the block is the root of either workspace bank.
