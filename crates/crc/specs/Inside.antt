@@ -10,12 +10,13 @@ unfoldable pub number : List ℕ → ℕ
 number [] = 0
 number (b ∷ bs) = b ⊕ number bs * 2 ^ 8
 
--- the bytes of a lane, and of a round of three
+-- the bytes of a lane
 abbrev pub lane : ℕ
 lane = 1336
 
+-- the bytes of a round, which is three lanes
 abbrev pub round : ℕ
-round = 4008
+round = 3 * lane
 
 -- the register after as many zero bytes as a lane has
 unfoldable pub pastLane : ℕ → ℕ

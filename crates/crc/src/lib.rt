@@ -1,5 +1,4 @@
 // CRC-32C, eight bytes a step by tables, and three lanes of steps side by side. specs/Crc.antt says what it is, bit by bit.
-mod lane_table;
 mod words;
 
 ghost use mathlib.Core.Path.{_≡_};
@@ -13,17 +12,17 @@ ghost use Rattle.crc.specs.Inside.{number, lane, round, pastLane, IsLane
 ghost use Rattle.crc.specs.Tables.{IsTables};
 use error::Error;
 use error::Number;
-use lane_table::LANE_WORDS;
+use words::LANE_WORDS;
 use words::TABLES;
 
 // Bytes in one unit of a file's data.
 pub const UNIT_BYTES: usize = 65_536;
 
-// Bytes in one of the three lanes that are summed side by side. What a block's word covers in one piece is a round of them and little more.
+// Bytes in one of the three lanes that are summed side by side: as many eights as three lanes find in the 4,028 bytes behind a page's word.
 const LANE: usize = 1_336;
 
 // Bytes in a round of three lanes.
-const ROUND: usize = 4_008;
+const ROUND: usize = 3 * LANE;
 
 // The reason of a string that isn't in the list of reasons.
 const UNLISTED: u16 = 0;
