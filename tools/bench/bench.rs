@@ -46,8 +46,9 @@ fn noise(length: usize) -> Vec<u8> {
 
 // ---- the benchmarks
 
+/// A short string; what follows a page's word, what stands before a root's, a block; a unit of data without and with what is summed before it.
 fn checksum(rows: &mut Vec<Row>) {
-    for length in [64, 4096, 65_536] {
+    for length in [64, 4028, 4092, 4096, 65_536, 65_580] {
         let (a, b) = (noise(length), noise(length));
         row(
             rows,

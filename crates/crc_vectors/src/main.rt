@@ -99,9 +99,36 @@ fn units() {
     show_unit(b"a unit of 65537: ", &bytes[..65_537]);
 }
 
+// Lengths at the borders of a round of three lanes; no two lanes have the same bytes.
+fn rounds() {
+    let mut bytes = [0xA5u8; 8_017];
+    bytes[0] = 1;
+    bytes[1_335] = 2;
+    bytes[1_336] = 3;
+    bytes[2_672] = 4;
+    bytes[4_007] = 5;
+    bytes[4_008] = 6;
+    bytes[8_016] = 7;
+    show(b"4007 bytes: ", crc::crc32c(&bytes[..4_007]));
+    show(b"4008 bytes: ", crc::crc32c(&bytes[..4_008]));
+    show(b"4009 bytes: ", crc::crc32c(&bytes[..4_009]));
+    show(b"8016 bytes: ", crc::crc32c(&bytes[..8_016]));
+    show(b"8017 bytes: ", crc::crc32c(&bytes));
+}
+
+// Counts of zeros at the borders of a lane.
+fn lanes() {
+    show(b"1 after 1335 zeros: ", crc::extend_zeros(1, 1_335));
+    show(b"1 after 1336 zeros: ", crc::extend_zeros(1, 1_336));
+    show(b"1 after 1337 zeros: ", crc::extend_zeros(1, 1_337));
+    show(b"1 after 2672 zeros: ", crc::extend_zeros(1, 2_672));
+}
+
 fn main() {
     vectors();
     with_zeros();
     registers();
     units();
+    rounds();
+    lanes();
 }

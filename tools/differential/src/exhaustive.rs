@@ -18,6 +18,7 @@ pub fn all(each: Each) {
     times_and_owners(each);
     slots(each);
     lookups(each);
+    long_keys(each);
     next_records(each);
 }
 
@@ -61,9 +62,19 @@ fn checksums(each: Each) {
         }
     }
     for bit in 0..32 {
-        for count in [0, 1, 2, 7, 8, 9, 255, 256, 65_535, 65_536, 65_537, 1_000_000] {
+        for count in [0, 1, 2, 7, 8, 9, 255, 256, 1_335, 1_336, 1_337, 65_535, 65_536, 65_537, 1_000_000] {
             each(Call::new(4, &[1 << bit, count], &[]));
         }
+    }
+    // Long strings are summed in rounds of three lanes: every place of a round has a byte of its own here, and one byte moves along it.
+    let long: Vec<u8> = (0..8_100u32).map(|at| (at.wrapping_mul(2_654_435_761) >> 24) as u8).collect();
+    for len in (4_000..4_100).chain(8_000..8_100) {
+        each(Call::new(1, &[0x1234_5678], &[&long[..len]]));
+    }
+    for at in (0..4_008).step_by(167) {
+        let mut bytes = vec![0; 4_008];
+        bytes[at] = 1;
+        each(Call::new(1, &[0], &[&bytes]));
     }
 }
 
@@ -273,6 +284,25 @@ fn lookups(each: Each) {
                 let part = &bytes[..bytes.len() - cut];
                 each(Call::new(39, &[len, 0, 9], &[part, key]));
                 each(Call::new(39, &[len, len, 9], &[part, key]));
+            }
+        }
+    }
+}
+
+/// A record and a sought key of up to 26 bytes each that are the same but for one byte, or for their lengths.
+fn long_keys(each: Each) {
+    for len in 0..=26 {
+        let record = vec![(vec![b'k'; len], vec![])];
+        let bytes = laid(&record);
+        for sought in 0..=26 {
+            let mut key = vec![b'k'; sought];
+            each(Call::new(39, &[1, 1, 0], &[&bytes, &key]));
+            for at in 0..sought {
+                for byte in [b'j', b'l'] {
+                    key[at] = byte;
+                    each(Call::new(39, &[1, 1, 0], &[&bytes, &key]));
+                }
+                key[at] = b'k';
             }
         }
     }

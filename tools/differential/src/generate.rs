@@ -34,8 +34,8 @@ pub fn any_call(r: &mut Random) -> Call {
 /// A string for a checksum: mostly short, at times a unit and more.
 fn message(r: &mut Random) -> Vec<u8> {
     let len = match r.below(40) {
-        0 => r.pick(&[4_095, 4_096, 4_097]),
-        1 if r.once_in(20) => r.pick(&[65_535, 65_536, 65_537, 80_000]),
+        0 => r.pick(&[4_007, 4_008, 4_009, 4_028, 4_092, 4_095, 4_096, 4_097]),
+        1 if r.once_in(20) => r.pick(&[8_015, 8_016, 8_017, 12_024, 65_535, 65_536, 65_537, 80_000]),
         2 => r.size(0, 2_000),
         _ => r.size(0, 70),
     };
@@ -92,7 +92,7 @@ fn bytes_call(r: &mut Random, no: u8) -> Call {
         }
         4 => {
             let count = match r.below(60) {
-                0 => r.pick(&[65_535, 65_536, 65_537, 131_073, 999_999, 1_000_000]),
+                0 => r.pick(&[1_335, 1_336, 1_337, 2_672, 65_535, 65_536, 65_537, 131_073, 999_999, 1_000_000]),
                 1 => r.below(70_000),
                 _ => r.below(300),
             };

@@ -6,7 +6,20 @@ use crate::pages::{self, laid};
 use crate::random::Random;
 use crate::records::{Place, Record};
 
+/// A key of some groups of eight bytes that others share but for a byte.
+fn long_key(r: &mut Random) -> Vec<u8> {
+    let mut key = vec![b'k'; r.size(6, 42)];
+    if r.below(4) != 0 {
+        let at = r.size(0, key.len() - 1);
+        key[at] = r.pick(&[0, b'j', b'l', 0xFF]);
+    }
+    key
+}
+
 fn key(r: &mut Random) -> Vec<u8> {
+    if r.once_in(6) {
+        return long_key(r);
+    }
     let len = match r.below(10) {
         0 => 0,
         1 => r.size(3, 20),
