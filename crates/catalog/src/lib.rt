@@ -55,7 +55,7 @@ fn is_entry_key(key: &[u8]) -> bool
     utf8::is_utf8(&key[9..])
 }
 
-// Whether a key has the form that its kind asks for; no form is tried that is another kind's.
+// Whether a key has the form that its kind asks for; only that form is tried.
 fn is_catalog_key(key: &[u8]) -> bool
     ensures { λ r. ⌜ r ≡ isCatalogKey (now (key .entry)) ⌝ }
 {

@@ -1,5 +1,5 @@
--- Three lanes side by side. A lane but the first starts from a register of 0, and what stood in the register before it goes through as many
--- zero bytes as it has: a linear map, which 32 words give.
+-- Three lanes side by side. Every lane but the first starts from a register of 0, and what stood in the register before it goes through as
+-- many zero bytes as it has: a linear map, which 32 words give.
 use mathlib.Core.Path.{_≡_, refl, sym, ap, ap₂, _∙_, subst}
 use mathlib.Core.Bool.{Bool}
 use mathlib.Core.List.{List, [], _∷_, _++_}
@@ -7,9 +7,11 @@ use Prim.Native.Nat.{ℕ, zero, suc, _+_, _-_, _*_, _/_, _%_, _^_, _≤_, _<_}
 use native.Mathlib.Nat.{le-of-suc-le-suc, not-suc-le-zero, div-eq-of-lt, mul-assoc, mul-comm, zero-mul, one-mul}
 use native.Mathlib.Omega.{arith}
 use lib.Dec.{T}
-use lib.ListN.{length, take, drop, getD, replicate, take-append-drop, length-take, length-drop, List·getD-append}
+use lib.ListN.{length, take, drop, getD, replicate, List·getD-append}
 use lib.Pow.{pow-add, shr-shr, split}
-use lib.Seq.{drop-drop, take-add, getD-drop, getD-append-add, drop-cons}
+use lib.Seq.{getD-drop, getD-append-add}
+use Rattle.octets.specs.Bytes.{part}
+use Rattle.octets.proofs.Join.{part-length, part-split}
 use Rattle.crc.specs.Crc.{_⊕_, stepBit, stepBits, extend}
 use Rattle.crc.specs.Inside.{lane, round, pastLane, IsLaneWords}
 use Rattle.crc.proofs.Xor.{⊕-comm, ⊕-assoc, ⊕-zero-l, ⊕-zero-r, ⊕-shl, ⊕-shifted, bit-lt}
@@ -17,56 +19,25 @@ use Rattle.crc.proofs.Linear.{stepBits-⊕, stepBits-zero, stepBits-shi
 use Rattle.crc.proofs.Parts.{extend-some}
 use Rattle.crc.proofs.Table.{follow, follows, count, quick, quick-is}
 
--- ---- the loops over a message
-
-take-one : (bs : List ℕ) (n j k : ℕ) → k ≡ suc j → j < length bs → take (suc n) (drop j bs) ≡ getD bs j 0 ∷ take n (drop k bs)
-take-one bs n j k e l = ap (take (suc n)) (drop-cons bs j 0 l) ∙ ap (λ (m : ℕ). getD bs j 0 ∷ take n (drop m bs)) (sym e)
-
-take-eight : (bs : List ℕ) (i : ℕ) → i + 8 ≤ length bs
-    → take 8 (drop i bs)
-    ≡ getD bs i 0 ∷ getD bs (i + 1) 0 ∷ getD bs (i + 2) 0 ∷ getD bs (i + 3) 0
-    ∷ getD bs (i + 4) 0 ∷ getD bs (i + 5) 0 ∷ getD bs (i + 6) 0 ∷ getD bs (i + 7) 0 ∷ []
-take-eight bs i h =
-    let e7 = take-one bs 0 (i + 7) (i + 8) (omega arith) (omega arith) in
-    let e6 = take-one bs 1 (i + 6) (i + 7) (omega arith) (omega arith) in
-    let e5 = take-one bs 2 (i + 5) (i + 6) (omega arith) (omega arith) in
-    let e4 = take-one bs 3 (i + 4) (i + 5) (omega arith) (omega arith) in
-    let e3 = take-one bs 4 (i + 3) (i + 4) (omega arith) (omega arith) in
-    let e2 = take-one bs 5 (i + 2) (i + 3) (omega arith) (omega arith) in
-    let e1 = take-one bs 6 (i + 1) (i + 2) (omega arith) (omega arith) in
-    let e0 = take-one bs 7 i (i + 1) (omega arith) (omega arith) in
-    cc
-
--- eight bytes by their places
-pub eight-at : {s : ℕ} (r : ℕ) (bs : List ℕ) (i : ℕ) → i + 8 ≤ length bs
-    → s ≡ extend r (getD bs i 0 ∷ getD bs (i + 1) 0 ∷ getD bs (i + 2) 0 ∷ getD bs (i + 3) 0
-    ∷ getD bs (i + 4) 0 ∷ getD bs (i + 5) 0 ∷ getD bs (i + 6) 0 ∷ getD bs (i + 7) 0 ∷ [])
-    → s ≡ extend r (take 8 (drop i bs))
-eight-at r bs i h q = q ∙ ap (extend r) (sym (take-eight bs i h))
-
--- some bytes, and then the rest
-pub turn-some : {w s : ℕ} (r : ℕ) (bs : List ℕ) (i n : ℕ) → w ≡ extend r (drop i bs) → s ≡ extend r (take n (drop i bs))
-    → w ≡ extend s (drop (i + n) bs)
-turn-some r bs i n p q =
-    p ∙ ap (extend r) (sym (take-append-drop n (drop i bs)))
-    ∙ extend-append r (take n (drop i bs)) (drop n (drop i bs))
-    ∙ ap₂ extend (sym q) (drop-drop n i bs)
+-- ---- the loop over the lanes
 
 -- a lane so far, and n bytes more
-pub lane-turn : {a s : ℕ} (r : ℕ) (bs : List ℕ) (p i n : ℕ) → a ≡ extend r (take i (drop p bs))
-    → s ≡ extend a (take n (drop (p + i) bs)) → s ≡ extend r (take (i + n) (drop p bs))
+pub lane-turn : {a s : ℕ} (r : ℕ) (bs : List ℕ) (p i n : ℕ) → a ≡ extend r (part bs p i)
+    → s ≡ extend a (part bs (p + i) n) → s ≡ extend r (part bs p (i + n))
 lane-turn r bs p i n ha hs =
-    hs ∙ ap₂ (λ (x : ℕ) (l : List ℕ). extend x (take n l)) ha (sym (drop-drop i p bs))
-    ∙ sym (extend-append r (take i (drop p bs)) (take n (drop i (drop p bs))))
-    ∙ ap (extend r) (sym (take-add i n (drop p bs)))
+    hs ∙ ap (λ (x : ℕ). extend x (part bs (p + i) n)) ha
+    ∙ sym (extend-append r (part bs p i) (part bs (p + i) n))
+    ∙ ap (extend r) (sym (part-split bs p i n))
 
+-- a lane of which nothing is taken yet
 pub lane-none : (r : ℕ) (bs : List ℕ) → r ≡ extend r (take 0 bs)
 unfolding extend
 lane-none r bs = refl
 
 -- ---- lanes joined
 
-pub two-lanes : (r : ℕ) (xs ys : List ℕ) → length ys ≡ lane → extend r (xs ++ ys) ≡ pastLane (extend r xs) ⊕ extend 0 ys
+-- a lane behind what stands before it: that goes through as many zero bytes as the lane has, and the lane starts from 0
+two-lanes : (r : ℕ) (xs ys : List ℕ) → length ys ≡ lane → extend r (xs ++ ys) ≡ pastLane (extend r xs) ⊕ extend 0 ys
 unfolding pastLane
 two-lanes r xs ys e =
     extend-append r xs ys
@@ -74,37 +45,36 @@ two-lanes r xs ys e =
     ∙ extend-⊕ (extend r xs) 0 ys
     ∙ ap (λ (n : ℕ). stepBits (8 * n) (extend r xs) ⊕ extend 0 ys) e
 
-lane-length : (bs : List ℕ) (p : ℕ) → p + lane ≤ length bs → length (take lane (drop p bs)) ≡ lane
-lane-length bs p h = simp (length-take, length-drop) (omega arith)
+-- the same of parts of a message: n bytes from p on, and the lane behind them
+next-lane : {a b ab : ℕ} (r : ℕ) (bs : List ℕ) (p n : ℕ) → p + n + lane ≤ length bs
+    → a ≡ extend r (part bs p n) → b ≡ extend 0 (part bs (p + n) lane) → ab ≡ pastLane a ⊕ b → ab ≡ extend r (part bs p (n + lane))
+next-lane r bs p n h qa qb q =
+    q ∙ ap₂ (λ (x y : ℕ). pastLane x ⊕ y) qa qb
+    ∙ sym (two-lanes r (part bs p n) (part bs (p + n) lane) (part-length bs (p + n) lane h))
+    ∙ ap (extend r) (sym (part-split bs p n lane))
 
 -- the second lane, and then the third, behind what stands before them
 pub three-lanes : {a b c ab abc : ℕ} (r : ℕ) (bs : List ℕ) (p i : ℕ) → i ≤ lane → lane ≤ i → p + round ≤ length bs
-    → a ≡ extend r (take i (drop p bs)) → b ≡ extend 0 (take i (drop (p + lane) bs)) → c ≡ extend 0 (take i (drop (p + 2 * lane) bs))
-    → ab ≡ pastLane a ⊕ b → abc ≡ pastLane ab ⊕ c → abc ≡ extend r (take round (drop p bs))
-three-lanes {a} {b} {c} {ab} {abc} r bs p i lo hi h pa pb pc pab pabc =
+    → a ≡ extend r (part bs p i) → b ≡ extend 0 (part bs (p + lane) i) → c ≡ extend 0 (part bs (p + 2 * lane) i)
+    → ab ≡ pastLane a ⊕ b → abc ≡ pastLane ab ⊕ c → abc ≡ extend r (part bs p round)
+three-lanes r bs p i lo hi h pa pb pc pab pabc =
     let e : i ≡ lane = omega arith in
-    let xs = take lane (drop p bs) in
-    let ys = take lane (drop (p + lane) bs) in
-    let zs = take lane (drop (p + 2 * lane) bs) in
-    let qa : a ≡ extend r xs = pa ∙ ap (λ (n : ℕ). extend r (take n (drop p bs))) e in
-    let qb : b ≡ extend 0 ys = pb ∙ ap (λ (n : ℕ). extend 0 (take n (drop (p + lane) bs))) e in
-    let qc : c ≡ extend 0 zs = pc ∙ ap (λ (n : ℕ). extend 0 (take n (drop (p + 2 * lane) bs))) e in
-    let ly : length ys ≡ lane = lane-length bs (p + lane) (omega arith) in
-    let lz : length zs ≡ lane = lane-length bs (p + 2 * lane) (omega arith) in
-    let qab : ab ≡ extend r (xs ++ ys) = pab ∙ ap₂ (λ (x y : ℕ). pastLane x ⊕ y) qa qb ∙ sym (two-lanes r xs ys ly) in
-    let two : xs ++ ys ≡ take (lane + lane) (drop p bs) =
-    ap (λ (l : List ℕ). xs ++ take lane l) (sym (drop-drop lane p bs)) ∙ sym (take-add lane lane (drop p bs)) in
-    let all : (xs ++ ys) ++ zs ≡ take (lane + lane + lane) (drop p bs) =
-    ap₂ (λ (l m : List ℕ). l ++ take lane m) two (sym (drop-drop (lane + lane) p bs)) ∙ sym (take-add (lane + lane) lane (drop p bs)) in
-    pabc ∙ ap₂ (λ (x y : ℕ). pastLane x ⊕ y) qab qc ∙ sym (two-lanes r (xs ++ ys) zs lz) ∙ ap (extend r) all
+    next-lane r bs p (2 * lane) (omega arith)
+    (next-lane r bs p lane (omega arith)
+    (pa ∙ ap (λ (n : ℕ). extend r (part bs p n)) e)
+    (pb ∙ ap (λ (n : ℕ). extend 0 (part bs (p + lane) n)) e) pab)
+    (pc ∙ ap (λ (n : ℕ). extend 0 (part bs (p + 2 * lane) n)) e) pabc
 
 -- ---- the register past a lane, a bit at a time
 
+past-zero : pastLane 0 ≡ 0
+unfolding pastLane
+past-zero = stepBits-zero (8 * lane)
+
 -- a bit, times a word
 bit-word : {w : ℕ} (x k : ℕ) → x < 2 → w ≡ pastLane (2 ^ k) → pastLane (x * 2 ^ k) ≡ x * w
-unfolding pastLane
-bit-word {w} zero k h e = ap (stepBits (8 * lane)) (zero-mul (2 ^ k)) ∙ stepBits-zero (8 * lane) ∙ sym (zero-mul w)
-bit-word {w} (suc zero) k h e = ap (stepBits (8 * lane)) (one-mul (2 ^ k)) ∙ sym e ∙ sym (one-mul w)
+bit-word {w} zero k h e = ap pastLane (zero-mul (2 ^ k)) ∙ past-zero ∙ sym (zero-mul w)
+bit-word {w} (suc zero) k h e = ap pastLane (one-mul (2 ^ k)) ∙ sym e ∙ sym (one-mul w)
 bit-word (suc (suc x)) k h e = absurd (not-suc-le-zero (le-of-suc-le-suc (le-of-suc-le-suc h)))
 
 pastLane-⊕ : (a b : ℕ) → pastLane (a ⊕ b) ≡ pastLane a ⊕ pastLane b
@@ -137,13 +107,12 @@ pub join-start : (a b : ℕ) → pastLane a ⊕ b ≡ pastLane (a / 2 ^ 0 * 2 ^ 
 join-start a b = ap (λ (x : ℕ). pastLane x ⊕ b) (omega arith)
 
 pub join-done : {w r : ℕ} (a k : ℕ) → a < 2 ^ 32 → k ≤ 32 → 32 ≤ k → w ≡ pastLane (a / 2 ^ k * 2 ^ k) ⊕ r → r ≡ w
-unfolding pastLane
 join-done {w} {r} a k h lo hi p =
     let e : k ≡ 32 = omega arith in
     sym
-    (p ∙ ap (λ (n : ℕ). stepBits (8 * lane) (a / 2 ^ n * 2 ^ n) ⊕ r) e
-    ∙ ap (λ (n : ℕ). stepBits (8 * lane) (n * 2 ^ 32) ⊕ r) (div-eq-of-lt h)
-    ∙ ap (λ (n : ℕ). n ⊕ r) (ap (stepBits (8 * lane)) (zero-mul (2 ^ 32)) ∙ stepBits-zero (8 * lane))
+    (p ∙ ap (λ (n : ℕ). pastLane (a / 2 ^ n * 2 ^ n) ⊕ r) e
+    ∙ ap (λ (n : ℕ). pastLane (n * 2 ^ 32) ⊕ r) (div-eq-of-lt h)
+    ∙ ap (λ (n : ℕ). n ⊕ r) (ap pastLane (zero-mul (2 ^ 32)) ∙ past-zero)
     ∙ ⊕-zero-l r)
 
 -- the zero bytes of a lane at once
@@ -163,19 +132,20 @@ bit-one r x w e = sym (ap (λ (n : ℕ). r ⊕ (n * w)) e ∙ ap (λ (n : ℕ). 
 
 -- ---- the words, by one test that antt computes: each is one bit step after the next, and the last after the register 2 ^ 32 past a lane
 
--- byte steps of zero bytes
-abbrev pub walk : List ℕ → ℕ → ℕ → ℕ
-walk first zero p = p
-walk first (suc n) p = walk first n (quick first p)
+-- n zero bytes, by the list of the registers after one
+abbrev pub past-zeros : List ℕ → ℕ → ℕ → ℕ
+past-zeros first zero p = p
+past-zeros first (suc n) p = past-zeros first n (quick first p)
 
+-- each word is one bit step after the next
 unfoldable pub words-right : List ℕ → Bool
-words-right xs = let first = count (stepBits 8) 256 0 in follow stepBit (drop 1 (xs ++ (walk first lane (2 ^ 32) ∷ []))) xs
+words-right xs = let first = count (stepBits 8) 256 0 in follow stepBit (drop 1 (xs ++ (past-zeros first lane (2 ^ 32) ∷ []))) xs
 
-walk-is : (n p : ℕ) → walk (count (stepBits 8) 256 0) n p ≡ stepBits (8 * n) p
+past-zeros-is : (n p : ℕ) → past-zeros (count (stepBits 8) 256 0) n p ≡ stepBits (8 * n) p
 unfolding stepBits
-walk-is zero p = refl
-walk-is (suc n) p =
-    walk-is n (quick (count (stepBits 8) 256 0) p)
+past-zeros-is zero p = refl
+past-zeros-is (suc n) p =
+    past-zeros-is n (quick (count (stepBits 8) 256 0) p)
     ∙ ap (stepBits (8 * n)) (quick-is p) ∙ eight-more n p
 
 first-last : (n a : ℕ) → stepBit (stepBits n a) ≡ stepBits n (stepBit a)
@@ -187,7 +157,7 @@ halve : (k : ℕ) → stepBit (2 ^ (k + 1)) ≡ 2 ^ k
 unfolding stepBits
 halve k = ap stepBit (pow-add 2 k 1) ∙ stepBits-shifted 1 (2 ^ k)
 
-module _ (n : ℕ) (w : ℕ) (xs : List ℕ) (e : length xs ≡ 32) (ew : w ≡ stepBits n (2 ^ 32))
+module _ (n w : ℕ) (xs : List ℕ) (e : length xs ≡ 32) (ew : w ≡ stepBits n (2 ^ 32))
     (f : (i : ℕ) → i < 32 → getD xs i 0 ≡ stepBit (getD (drop 1 (xs ++ (w ∷ []))) i 0)) where
   at : (j k : ℕ) → j + k ≡ 32 → getD (xs ++ (w ∷ [])) k 0 ≡ stepBits n (2 ^ k)
   at zero k h =
@@ -213,6 +183,6 @@ pub words-rule : (xs : List ℕ) → T (words-right xs) → length xs ≡ 32 →
 unfolding words-right IsLaneWords pastLane
 words-rule xs t e k h =
     let first = count (stepBits 8) 256 0 in
-    let w = walk first lane (2 ^ 32) in
-    words (8 * lane) w xs e (walk-is lane (2 ^ 32))
+    let w = past-zeros first lane (2 ^ 32) in
+    words (8 * lane) w xs e (past-zeros-is lane (2 ^ 32))
     (λ (i : ℕ) (l : i < 32). follows stepBit (drop 1 (xs ++ (w ∷ []))) xs t i (subst (λ (m : ℕ). i < m) (sym e) l)) k h

@@ -4,10 +4,11 @@ use mathlib.Core.List.{List, [], _∷_, _++_}
 use Prim.Native.Nat.{ℕ, zero, suc, _+_, _-_, _/_, _%_, _≤_, _<_, zero-le, min}
 use native.Mathlib.Nat.{sub-zero, suc-sub-suc, le-refl, le-of-suc-le-suc, not-suc-le-zero}
 use native.Mathlib.Omega.{arith}
-use lib.ListN.{length, take, drop, getD, replicate, length-drop, drop-of-length-le, replicate-append-replicate}
-use lib.Seq.{drop-cons, take-all}
+use lib.ListN.{length, take, drop, getD, replicate, take-append-drop, length-drop, drop-of-length-le, replicate-append-replicate}
+use lib.Seq.{drop-cons, drop-drop, take-all}
 use Rattle.crc.specs.Crc.{_⊕_, ones, stepByte, extend, crc32c, zeroed, crc32cWithZero}
 use Rattle.crc.specs.DataUnit.{unitBytes, tag, dataUnit}
+use Rattle.octets.specs.Bytes.{part}
 use Rattle.octets.specs.Number.{littleBytes}
 use Rattle.crc.proofs.Linear.{extend-append}
 
@@ -26,6 +27,41 @@ turn-one r bs i p h q = p ∙ extend-one r bs i (i + 1) (omega arith) h ∙ ap (
 pub turns-done : {w r : ℕ} (bs : List ℕ) (i : ℕ) → w ≡ extend r (drop i bs) → length bs ≤ i → r ≡ w
 unfolding extend
 turns-done {w} {r} bs i p h = sym (p ∙ ap (extend r) (drop-of-length-le bs h))
+
+-- the byte at j, and n more
+take-one : (bs : List ℕ) (n j k : ℕ) → k ≡ suc j → j < length bs → take (suc n) (drop j bs) ≡ getD bs j 0 ∷ take n (drop k bs)
+take-one bs n j k e l = ap (take (suc n)) (drop-cons bs j 0 l) ∙ ap (λ (m : ℕ). getD bs j 0 ∷ take n (drop m bs)) (sym e)
+
+-- eight of them
+take-eight : (bs : List ℕ) (i : ℕ) → i + 8 ≤ length bs
+    → part bs i 8
+    ≡ getD bs i 0 ∷ getD bs (i + 1) 0 ∷ getD bs (i + 2) 0 ∷ getD bs (i + 3) 0
+    ∷ getD bs (i + 4) 0 ∷ getD bs (i + 5) 0 ∷ getD bs (i + 6) 0 ∷ getD bs (i + 7) 0 ∷ []
+take-eight bs i h =
+    let e7 = take-one bs 0 (i + 7) (i + 8) (omega arith) (omega arith) in
+    let e6 = take-one bs 1 (i + 6) (i + 7) (omega arith) (omega arith) in
+    let e5 = take-one bs 2 (i + 5) (i + 6) (omega arith) (omega arith) in
+    let e4 = take-one bs 3 (i + 4) (i + 5) (omega arith) (omega arith) in
+    let e3 = take-one bs 4 (i + 3) (i + 4) (omega arith) (omega arith) in
+    let e2 = take-one bs 5 (i + 2) (i + 3) (omega arith) (omega arith) in
+    let e1 = take-one bs 6 (i + 1) (i + 2) (omega arith) (omega arith) in
+    let e0 = take-one bs 7 i (i + 1) (omega arith) (omega arith) in
+    cc
+
+-- eight bytes by their places
+pub eight-at : {s : ℕ} (r : ℕ) (bs : List ℕ) (i : ℕ) → i + 8 ≤ length bs
+    → s ≡ extend r (getD bs i 0 ∷ getD bs (i + 1) 0 ∷ getD bs (i + 2) 0 ∷ getD bs (i + 3) 0
+    ∷ getD bs (i + 4) 0 ∷ getD bs (i + 5) 0 ∷ getD bs (i + 6) 0 ∷ getD bs (i + 7) 0 ∷ [])
+    → s ≡ extend r (part bs i 8)
+eight-at r bs i h q = q ∙ ap (extend r) (sym (take-eight bs i h))
+
+-- a turn that takes n bytes, eight or a round
+pub turn-some : {w s : ℕ} (r : ℕ) (bs : List ℕ) (i n : ℕ) → w ≡ extend r (drop i bs) → s ≡ extend r (part bs i n)
+    → w ≡ extend s (drop (i + n) bs)
+turn-some r bs i n p q =
+    p ∙ ap (extend r) (sym (take-append-drop n (drop i bs)))
+    ∙ extend-append r (part bs i n) (drop n (drop i bs))
+    ∙ ap₂ extend (sym q) (drop-drop n i bs)
 
 -- k of n zero bytes, and then the rest
 pub extend-some : (r k n : ℕ) → k ≤ n → extend r (replicate n 0) ≡ extend (extend r (replicate k 0)) (replicate (n - k) 0)

@@ -10,11 +10,11 @@ unfoldable pub number : List ℕ → ℕ
 number [] = 0
 number (b ∷ bs) = b ⊕ number bs * 2 ^ 8
 
--- the bytes of a lane
+-- how many bytes a lane has
 abbrev pub lane : ℕ
 lane = 1336
 
--- the bytes of a round, which is three lanes
+-- how many bytes a round has: three lanes
 abbrev pub round : ℕ
 round = 3 * lane
 

@@ -4,11 +4,12 @@ mod words;
 ghost use mathlib.Core.Path.{_≡_};
 ghost use mathlib.Core.List.{[], _∷_};
 ghost use Prim.Native.Nat.{_+_, _*_, _/_, _%_, _^_, _<_, _≤_};
-ghost use lib.ListN.{length, take, drop, replicate};
+ghost use lib.ListN.{length, drop, replicate};
+ghost use Rattle.octets.specs.Bytes.{part};
 ghost use Rattle.octets.specs.Number.{littleBytes};
 ghost use Rattle.crc.specs.Crc.{_⊕_, stepBits, stepByte, extend, crc32c as crc32cOf, crc32cWithZero};
 ghost use Rattle.crc.specs.DataUnit.{unitBytes, dataUnit, dataUnitCrc};
-ghost use Rattle.crc.specs.Inside.{number, lane, round, pastLane, IsLaneWords};
+ghost use Rattle.crc.specs.Inside.{number, round, pastLane, IsLaneWords};
 ghost use Rattle.crc.specs.Tables.{IsTables};
 use error::Error;
 use error::Number;
@@ -18,7 +19,7 @@ use words::TABLES;
 // Bytes in one unit of a file's data.
 pub const UNIT_BYTES: usize = 65_536;
 
-// Bytes in one of the three lanes that are summed side by side: as many eights as three lanes find in the 4,028 bytes behind a page's word.
+// Bytes in one of the three lanes that are summed side by side: the most eights that three lanes find in the 4,028 bytes behind a page's word.
 const LANE: usize = 1_336;
 
 // Bytes in a round of three lanes.
@@ -102,7 +103,7 @@ fn tail_with(t: &[u32; 2048], crc: u32, bytes: &[u8], from: usize) -> u32
 // The register `crc` after the eight bytes from `i` on.
 fn step_at(t: &[u32; 2048], crc: u32, bytes: &[u8], i: usize) -> u32
     requires { ⌜ IsTables (now t) × (i + 8 ≤ length (now bytes)) ⌝ }
-    ensures { λ r. ⌜ r ≡ extend crc (take 8 (drop i (now (bytes .entry)))) ⌝ }
+    ensures { λ r. ⌜ r ≡ extend crc (part (now (bytes .entry)) i 8) ⌝ }
 {
     step8(
         t,
@@ -119,7 +120,7 @@ fn step_at(t: &[u32; 2048], crc: u32, bytes: &[u8], i: usize) -> u32
 }
 
 // The register `crc` after the bytes from `from` on, eight at a time.
-fn lane_with(t: &[u32; 2048], crc: u32, bytes: &[u8], from: usize) -> u32
+fn rest_with(t: &[u32; 2048], crc: u32, bytes: &[u8], from: usize) -> u32
     requires { ⌜ IsTables (now t) × (from ≤ length (now bytes)) ⌝ }
     ensures { λ r. ⌜ r ≡ extend crc (drop from (now (bytes .entry))) ⌝ }
 {
@@ -132,14 +133,14 @@ fn lane_with(t: &[u32; 2048], crc: u32, bytes: &[u8], from: usize) -> u32
     tail_with(t, r, bytes, i)
 }
 
-// The words of the join. One function names them, as `tables` does.
+// The words of the join, 128 bytes. One function names them, as `tables` does; they are copied once a round.
 fn lane_words() -> [u32; 32]
     ensures { λ r. ⌜ IsLaneWords r ⌝ }
 {
     LANE_WORDS
 }
 
-// `r`, and `word` in it where bit `k` of `crc` is 1.
+// `r`, with `word` xored in where bit `k` of `crc` is 1.
 fn with_bit(crc: u32, k: usize, word: u32, r: u32) -> u32
     requires { ⌜ k < 32 ⌝ }
     ensures { λ s. ⌜ s ≡ r ⊕ (crc / 2 ^ k % 2 * word) ⌝ }
@@ -167,7 +168,7 @@ fn join(m: &[u32; 32], first: u32, second: u32) -> u32
 // The register `crc` after a round of three lanes from `from` on. No lane waits for another, so they are summed side by side.
 fn round_with(t: &[u32; 2048], crc: u32, bytes: &[u8], from: usize) -> u32
     requires { ⌜ IsTables (now t) × (from + round ≤ length (now bytes)) ⌝ }
-    ensures { λ r. ⌜ r ≡ extend crc (take round (drop from (now (bytes .entry)))) ⌝ }
+    ensures { λ r. ⌜ r ≡ extend crc (part (now (bytes .entry)) from round) ⌝ }
 {
     let mut a = crc;
     let mut b = 0;
@@ -184,7 +185,7 @@ fn round_with(t: &[u32; 2048], crc: u32, bytes: &[u8], from: usize) -> u32
     join(&m, ab, c)
 }
 
-// The register `crc` after `bytes`, by tables that the caller holds: rounds of three lanes, and then one lane.
+// The register `crc` after `bytes`, by tables that the caller holds: rounds of three lanes, and then the rest.
 fn extend_with(t: &[u32; 2048], crc: u32, bytes: &[u8]) -> u32
     requires { ⌜ IsTables (now t) ⌝ }
     ensures { λ r. ⌜ r ≡ extend crc (now (bytes .entry)) ⌝ }
@@ -195,7 +196,7 @@ fn extend_with(t: &[u32; 2048], crc: u32, bytes: &[u8]) -> u32
         r = round_with(t, r, bytes, i);
         i += ROUND;
     }
-    lane_with(t, r, bytes, i)
+    rest_with(t, r, bytes, i)
 }
 
 // The register `crc` after `count` zero bytes, one at a time.
@@ -234,7 +235,7 @@ fn past_lane(crc: u32) -> u32
     join(&m, crc, 0)
 }
 
-// The register `crc` after `count` zero bytes, by tables that the caller holds: as many as a lane has at once, and then eight.
+// The register `crc` after `count` zero bytes, by tables that the caller holds: a lane's worth at once, then eight at a time.
 fn zeros_with(t: &[u32; 2048], crc: u32, count: usize) -> u32
     requires { ⌜ IsTables (now t) ⌝ }
     ensures { λ r. ⌜ r ≡ extend crc (replicate count 0) ⌝ }

@@ -108,7 +108,8 @@ fn rounds() {
     bytes[2_672] = 4;
     bytes[4_007] = 5;
     bytes[4_008] = 6;
-    bytes[8_016] = 7;
+    bytes[6_680] = 7;
+    bytes[8_016] = 8;
     show(b"4007 bytes: ", crc::crc32c(&bytes[..4_007]));
     show(b"4008 bytes: ", crc::crc32c(&bytes[..4_008]));
     show(b"4009 bytes: ", crc::crc32c(&bytes[..4_009]));

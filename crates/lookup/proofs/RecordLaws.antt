@@ -2,15 +2,14 @@
 use mathlib.Core.Path.{_≡_, refl, sym, ap, _∙_}
 use mathlib.Core.Bool.{Bool, true, false, cond}
 use mathlib.Core.List.{List}
-use Prim.Native.Nat.{ℕ, _+_, _-_, _*_, _<_, _≤_}
+use Prim.Native.Nat.{ℕ, _+_, _-_, _<_, _≤_}
 use native.Mathlib.Omega.{arith}
 use lib.Dec.{leb}
 use lib.ListN.{length, take, drop, length-drop}
 use lib.Seq.{drop-drop}
 use borrow.Author.Tests.{le-leb, lt-leb, leb-true}
-use Rattle.octets.specs.Bytes.{byteAt, part}
+use Rattle.octets.specs.Bytes.{part}
 use Rattle.octets.specs.Number.{field, u16At}
-use Rattle.octets.proofs.Join.{field-join, field-one}
 use Rattle.octets.specs.Order.{order, isGreater}
 use Rattle.lookup.specs.Record.{keyLen, valueLen, recordLen, splitRecord, isRecord, sizeOf, isAbove, lookAt, keyOf}
 use Rattle.lookup.specs.Inside.{endSplit, recordEnd}
@@ -115,9 +114,6 @@ module _ (s key : List ℕ) (at : ℕ) (whole : isRecord (splitRecord (drop at s
       p ∙ rw (n, e, ← drop-drop 4 at s) (sym (above-is (drop at s) key whole))
 
 -- ---- where the record at a place ends, by the numbers k and v that stand there
-pub two-bytes : (s : List ℕ) (i : ℕ) → i + 2 ≤ length s → byteAt s i + 256 * byteAt s (i + 1) ≡ u16At s i
-two-bytes s i h = omega (arith, field-join 1 1 s i (omega arith), field-one s i (omega arith), field-one s (i + 1) (omega arith))
-
 module _ (s : List ℕ) (at : ℕ) (within : at ≤ length s) where
   pub end-short : length s < at + 4 → End.Broken ≡ recordEnd s at
   unfolding recordEnd

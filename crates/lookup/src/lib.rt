@@ -63,20 +63,6 @@ pub fn look_at(part: &[u8], key: &[u8]) -> Look
     }
 }
 
-fn wide(byte: u8) -> usize
-    ensures { λ r. ⌜ (r ≡ byte) × (r < 256) ⌝ }
-{
-    byte as usize
-}
-
-// The number of two bytes that stand at a place. `octets::u16_at` tests again that they do, and takes a lookup some hundredths longer.
-fn number_at(part: &[u8], at: usize) -> usize
-    requires { ⌜ at + 2 ≤ length (now part) ⌝ }
-    ensures { λ r. ⌜ (r ≡ u16At (now (part .entry)) at) × (r < 65536) ⌝ }
-{
-    wide(part[at]) + 256 * wide(part[at + 1])
-}
-
 // Where the record at a place ends.
 fn record_end(part: &[u8], at: usize) -> End
     requires { ⌜ (at ≤ length (now part)) × (length (now part) ≤ 65535) ⌝ }
@@ -86,7 +72,7 @@ fn record_end(part: &[u8], at: usize) -> End
     if part.len() < start {
         return End::Broken;
     }
-    let end = start + number_at(part, at) + number_at(part, at + 2);
+    let end = start + octets::u16_at(part, at) as usize + octets::u16_at(part, at + 2) as usize;
     if part.len() < end {
         return End::Broken;
     }
@@ -146,7 +132,7 @@ fn above_at(part: &[u8], at: usize, key: &[u8]) -> bool
     ensures { λ r. ⌜ r ≡ aboveAt (now (part .entry)) (now (key .entry)) at ⌝ }
 {
     let start = at + 4;
-    let end = start + number_at(part, at);
+    let end = start + octets::u16_at(part, at) as usize;
     octets::is_above(&part[start..end], key)
 }
 

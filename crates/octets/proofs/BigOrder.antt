@@ -1,6 +1,6 @@
 -- Strings whose first bytes are as many: their order is that of the big-endian numbers, or of what follows where those are the same.
 use mathlib.Core.Path.{_≡_, refl, sym, _∙_, ap, ap₂}
-use mathlib.Core.Bool.{Bool, false}
+use mathlib.Core.Bool.{false}
 use mathlib.Core.List.{List, [], _∷_, _++_}
 use Prim.Native.Nat.{ℕ, suc, _+_, _*_, _^_, _≤_, _<_, min}
 use native.Mathlib.Nat.{suc-inj, suc-mul, pow-succ', mul-le-mul-right}
@@ -9,7 +9,7 @@ use native.Mathlib.Omega.{arith}
 use lib.Dec.{lit<, ltb}
 use borrow.Author.Tests.{lt-ltb, le-ltb}
 use lib.ListN.{length, take, drop, take-append-drop}
-use lib.Seq.{drop-drop, take-add, take-take}
+use lib.Seq.{drop-drop, take-take}
 use Rattle.octets.specs.Bytes.{Bytes, byteAt, part}
 use Rattle.octets.specs.Number.{little, big, field, u64At}
 use Rattle.octets.specs.Order.{order, isGreater}
@@ -17,7 +17,8 @@ use Rattle.octets.specs.Inside.{Decides}
 use Rattle.octets.specs.declared.Order.the-variants.{Less, Greater}
 use Rattle.octets.proofs.Digits.{bytes-part, field-same}
 use Rattle.octets.proofs.Join.{part-length}
-use Rattle.octets.proofs.OrderLaws.{less-at, greater-at, less-end, equal-end, greater-end, less-by, less-on, order-flip, order-behind}
+use Rattle.octets.proofs.Parts.{grow}
+use Rattle.octets.proofs.OrderLaws.{less-end, equal-end, greater-end, less-by, less-on, order-flip, order-behind}
 
 bytes-tail : {x : ℕ} {l : List ℕ} → Bytes (x ∷ l) → Bytes l
 bytes-tail h = record { below = λ i. h .below (suc i) }
@@ -87,14 +88,7 @@ big-same (x ∷ xs) (y ∷ ys) n p q e = ap₂ _∷_ same (big-same xs ys (suc-i
     rest : big xs ≡ big ys
     rest = omega (arith, m, ap (λ (z : ℕ). z * 256 ^ length xs) same)
 
--- ---- one byte at a place of both strings
-pub byte-differs : (a b : List ℕ) (i : ℕ) → i < length a → i < length b → (byteAt a i ≡ byteAt b i → ⊥) → ltb (byteAt b i) (byteAt a i) ≡ isGreater (order (drop i a) (drop i b))
-byte-differs a b i p q n = go (decLt (byteAt b i) (byteAt a i))
-  where
-    go : Dec (byteAt b i < byteAt a i) → ltb (byteAt b i) (byteAt a i) ≡ isGreater (order (drop i a) (drop i b))
-    go (yes h) = rw (lt-ltb (byteAt b i) (byteAt a i) h, greater-at a b i p q h)
-    go (no h) = rw (le-ltb (byteAt b i) (byteAt a i) (omega arith), less-at a b i p q (omega arith))
-
+-- the first string ends here, so it is not above the second
 pub not-above-end : (a b : List ℕ) (i : ℕ) → length a ≤ i → isGreater (order (drop i a) (drop i b)) ≡ false
 not-above-end a b i p = go (decLt i (length b))
   where
@@ -102,16 +96,17 @@ not-above-end a b i p = go (decLt i (length b))
     go (yes h) = rw (less-end a b i p h)
     go (no h) = rw (equal-end a b i p (omega arith))
 
--- strings that are the same up to a place, and in the eight bytes there, are the same behind those
-pub eight-more : (a b : List ℕ) (i : ℕ) → take i a ≡ take i b → part a i 8 ≡ part b i 8 → take (i + 8) a ≡ take (i + 8) b
-eight-more a b i p q = take-add i 8 a ∙ ap₂ _++_ p q ∙ sym (take-add i 8 b)
+-- ---- where eight bytes decide the order
+
+-- eight bytes that are the same have one stored number
+same-number : {x y : ℕ} (a b : List ℕ) (i : ℕ) → x ≡ u64At a i → y ≡ u64At b i → part a i 8 ≡ part b i 8 → x ≡ y
+unfolding field
+same-number a b i ex ey e = ex ∙ ap (λ (l : List ℕ). little l) e ∙ sym ey
 
 -- eight bytes that differ, behind others that don't, decide the order
 pub differ-here : {x y : ℕ} (a b : List ℕ) (i : ℕ) → i + 8 ≤ length a → i + 8 ≤ length b → take i a ≡ take i b
     → x ≡ u64At a i → y ≡ u64At b i → (x ≡ y → ⊥) → Decides a b i
-unfolding field
-differ-here a b i p q e ex ey n =
-    record { in-a = p; in-b = q; before = e; end = λ s. absurd (n (ex ∙ ap (λ (l : List ℕ). little l) s ∙ sym ey)) }
+differ-here a b i p q e ex ey n = record { in-a = p; in-b = q; before = e; end = λ s. absurd (n (same-number a b i ex ey s)) }
 
 -- where those before the shorter string's last eight are the same, the last eight decide it
 pub last-eight : (a b : List ℕ) (i last : ℕ) → take i a ≡ take i b → last ≤ i → last + 8 ≡ min (length a) (length b) → Decides a b last
@@ -155,21 +150,22 @@ module _ (a b : List ℕ) (i : ℕ) (known : (k : ℕ) → byteAt a k < 256) (kn
       go x y p q (no h) (yes l) = rw (le-ltb y x (omega arith), less (omega arith))
       go x y p q (no h) (no l) = absurd (n (big-same (part a i 8) (part b i 8) as-many bytes-a bytes-b (omega arith)))
 
-  -- groups are the same exactly where their stored numbers are
+  -- groups whose stored numbers are the same are the same
   pub group-same : u64At a i ≡ u64At b i → part a i 8 ≡ part b i 8
   group-same e = field-same a b i 8 (record { below = known }) (record { below = known′ }) fits fits′ e
 
   module _ (d : Decides a b i) where
+    -- where they differ, their order is that of the strings
     pub decided : {x y p q : ℕ} → x ≡ u64At a i → y ≡ u64At b i → (x ≡ y → ⊥) → p ≡ big (part b i 8) → q ≡ big (part a i 8) → ltb p q ≡ isGreater (order a b)
-    unfolding field
     decided ex ey n ep eq =
         ap₂ ltb ep eq
-        ∙ group-differs (λ e. n (ex ∙ ap (λ (l : List ℕ). little l) e ∙ sym ey))
+        ∙ group-differs (λ e. n (same-number a b i ex ey e))
         ∙ ap isGreater (order-behind a b i (d .before))
 
+    -- where they are the same, the longer string is above
     pub ended : u64At a i ≡ u64At b i → ltb (length b) (length a) ≡ isGreater (order a b)
     ended e =
-        go (decLt (length b) (length a)) (d .end same) ∙ ap isGreater (order-behind a b (i + 8) (eight-more a b i (d .before) same))
+        go (decLt (length b) (length a)) (d .end same) ∙ ap isGreater (order-behind a b (i + 8) (grow a b i 8 (d .before) same))
       where
         same : part a i 8 ≡ part b i 8
         same = group-same e

@@ -150,7 +150,6 @@ unfolding order
 order-front [] r t = refl
 order-front (x ∷ a) r t = rw (le-ltb x x (le-refl x)) (order-front a r t)
 
--- seen from the other string
 -- strings that are the same up to a place are ordered as they are from there on
 pub order-behind : (a b : List ℕ) (n : ℕ) → take n a ≡ take n b → order (drop n a) (drop n b) ≡ order a b
 order-behind a b n e =
@@ -159,6 +158,7 @@ order-behind a b n e =
     ∙ ap (λ (l : List ℕ). order (l ++ drop n a) (take n b ++ drop n b)) e
     ∙ order-front (take n b) (drop n a) (drop n b))
 
+-- seen from the other string
 pub order-mirror : (a b : List ℕ) → isGreater (order b a) ≡ isLess (order a b)
 unfolding order
 order-mirror [] [] = refl

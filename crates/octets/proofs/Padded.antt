@@ -3,7 +3,7 @@ use mathlib.Core.Path.{_≡_, refl, ap, _∙_}
 use mathlib.Core.List.{List, [], _∷_, _++_, append-nil}
 use Prim.Native.Nat.{ℕ, zero, suc, _-_}
 use native.Mathlib.Omega.{arith}
-use lib.ListN.{length, take, replicate, length-append, length-replicate, length-take}
+use lib.ListN.{length, replicate, length-append}
 use lib.Seq.{sets, set-at, append-snoc, take-all}
 use Rattle.octets.specs.Bytes.{paddedTo, Laid}
 use Rattle.octets.proofs.Lay.{sets-out}
@@ -28,6 +28,3 @@ pub padded-whole : (n : ℕ) (s : List ℕ) → length s ≡ n → paddedTo n s 
 padded-whole n s e =
     let y : n - length s ≡ 0 = omega arith in
     rw (y, take-all n s (omega arith)) (append-nil s)
-
-pub padded-length : (n : ℕ) (s : List ℕ) → length (paddedTo n s) ≡ n
-padded-length n s = rw (length-append, length-take, length-replicate) (omega arith)

@@ -2,7 +2,7 @@
 ghost use mathlib.Core.Path.{_≡_};
 ghost use Prim.Native.Nat.{_+_, _-_, _≤_, _<_, _^_, min};
 ghost use lib.Dec.{leb};
-ghost use lib.ListN.{length, drop};
+ghost use lib.ListN.{length};
 ghost use Rattle.octets.specs.Bytes.{byteAt, part, IsPart, IsRest, paddedTo, Laid, allZero, sameBytes, startsWith};
 ghost use Rattle.octets.specs.Number.{big, field, u16At, u32At, u64At, bigAt};
 ghost use Rattle.octets.specs.Order.{order, isGreater};
@@ -289,21 +289,14 @@ pub fn lesser(a: usize, b: usize) -> usize
     if a < b { a } else { b }
 }
 
-// Whether the first string is above the second, byte by byte.
-fn above_bytes(a: &[u8], b: &[u8]) -> bool
-    ensures { λ r. ⌜ r ≡ isGreater (order (now (a .entry)) (now (b .entry))) ⌝ }
+fn is_greater(order: Order) -> bool
+    ensures { λ r. ⌜ r ≡ isGreater order ⌝ }
 {
-    let mut i = 0;
-    while i < a.len() {
-        if b.len() <= i {
-            return true;
-        }
-        if a[i] != b[i] {
-            return b[i] < a[i];
-        }
-        i += 1;
+    match order {
+        Order::Less => false,
+        Order::Equal => false,
+        Order::Greater => true,
     }
-    false
 }
 
 // Where eight bytes decide the order: the first that differ of those at 0, 8, 16 and so on, or the last eight of the shorter string.
@@ -321,7 +314,8 @@ fn deciding_group(a: &[u8], b: &[u8], last: usize) -> usize
     last
 }
 
-// Whether the first string is above the second, by the eight bytes that decide it: as big-endian numbers they are ordered as bytes are.
+// Whether the first string is above the second, by the eight bytes that decide it. As stored numbers they tell whether they differ; as
+// big-endian ones, for which they are turned round, they are ordered as bytes are.
 fn above_group(a: &[u8], b: &[u8], at: usize) -> bool
     requires { ⌜ Decides (now a) (now b) at ⌝ }
     ensures { λ r. ⌜ r ≡ isGreater (order (now (a .entry)) (now (b .entry))) ⌝ }
@@ -332,13 +326,13 @@ fn above_group(a: &[u8], b: &[u8], at: usize) -> bool
     b.len() < a.len()
 }
 
-// Whether the first string is above the second. No branch goes by which of two differing groups is the larger: of sought keys that can't be foretold.
+// Whether the first string is above the second. No branch goes by which of two differing groups is the larger: for sought keys that can't be foretold.
 pub fn is_above(a: &[u8], b: &[u8]) -> bool
     ensures { λ r. ⌜ r ≡ isGreater (order (now (a .entry)) (now (b .entry))) ⌝ }
 {
     let shorter = lesser(a.len(), b.len());
     if shorter < 8 {
-        return above_bytes(a, b);
+        return is_greater(compare(a, b));
     }
     above_group(a, b, deciding_group(a, b, shorter - 8))
 }

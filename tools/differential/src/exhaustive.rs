@@ -1,4 +1,5 @@
-//! The calls that every comparison makes whatever its seed: all short texts, all borders against all borders, all slots.
+//! The calls that every comparison makes whatever its seed: all short texts, all borders against all borders, all slots, long strings at the
+//! borders of the checksum's lanes, keys that differ in a byte.
 
 use crate::call::Call;
 use crate::numbers::{self, EARLIEST, LATEST, MAX_ID, VOLUMES, turns};
@@ -66,7 +67,7 @@ fn checksums(each: Each) {
             each(Call::new(4, &[1 << bit, count], &[]));
         }
     }
-    // Long strings are summed in rounds of three lanes: every place of a round has a byte of its own here, and one byte moves along it.
+    // Long strings are summed in rounds of three lanes: first no two lanes have the same bytes, then a round has a single 1, at every 167th place.
     let long: Vec<u8> = (0..8_100u32).map(|at| (at.wrapping_mul(2_654_435_761) >> 24) as u8).collect();
     for len in (4_000..4_100).chain(8_000..8_100) {
         each(Call::new(1, &[0x1234_5678], &[&long[..len]]));

@@ -31,7 +31,7 @@ pub fn any_call(r: &mut Random) -> Call {
     unreachable!("the weights add up to more than what is left")
 }
 
-/// A string for a checksum: mostly short, at times a unit and more.
+/// A string for a checksum: mostly short, at times a block or what a round of lanes takes, or a unit and more.
 fn message(r: &mut Random) -> Vec<u8> {
     let len = match r.below(40) {
         0 => r.pick(&[4_007, 4_008, 4_009, 4_028, 4_092, 4_095, 4_096, 4_097]),

@@ -4,7 +4,7 @@ use Prim.Native.Nat.{_-_, _≤_}
 use lib.ListN.{length, drop}
 use borrow.Author.Needs.{needs}
 use Rattle.crc.specs.Crc.{extend}
-use Rattle.crc.proofs.Lanes.{turn-some}
+use Rattle.crc.proofs.Parts.{turn-some}
 use Rattle.crc.proofs.extend_with.Statement.{statement}
 use Rattle.crc.proofs.extend_with.Tie as tie
 

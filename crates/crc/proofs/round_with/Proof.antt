@@ -1,7 +1,7 @@
 -- Invariant: each lane's register is that after its first `i` bytes.
 use mathlib.Core.Path.{_≡_, refl}
 use Prim.Native.Nat.{_+_, _-_, _*_, _%_, _≤_}
-use lib.ListN.{take, drop}
+use Rattle.octets.specs.Bytes.{part}
 use borrow.Author.Needs.{needs}
 use Rattle.crc.specs.Crc.{extend}
 use Rattle.crc.specs.Inside.{lane}
@@ -12,9 +12,9 @@ use Rattle.crc.proofs.round_with.Tie as tie
 abbrev Inv-loop : tie.InvT-loop
 Inv-loop t crc bytes from a₀ b₀ c₀ i₀ a b c i =
     (i ≤ lane) × (i % 8 ≡ 0)
-    × (a ≡ extend crc (take i (drop from bytes)))
-    × (b ≡ extend 0 (take i (drop (from + lane) bytes)))
-    × (c ≡ extend 0 (take i (drop (from + 2 * lane) bytes)))
+    × (a ≡ extend crc (part bytes from i))
+    × (b ≡ extend 0 (part bytes (from + lane) i))
+    × (c ≡ extend 0 (part bytes (from + 2 * lane) i))
 
 abbrev μ-loop : tie.MeasureT-loop
 μ-loop t crc bytes from a₀ b₀ c₀ i₀ a b c i = lane - i

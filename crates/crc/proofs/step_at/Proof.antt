@@ -1,6 +1,6 @@
 -- `crc::step_at` meets its contract: the eight bytes by their places.
 use borrow.Author.Needs.{needs}
-use Rattle.crc.proofs.Lanes.{eight-at}
+use Rattle.crc.proofs.Parts.{eight-at}
 use Rattle.crc.proofs.step_at.Statement.{statement}
 use Rattle.crc.proofs.step_at.Tie as tie
 

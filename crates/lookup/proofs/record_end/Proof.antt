@@ -18,10 +18,12 @@ record-end-spec =
     (tie.spec
     (λ c. search needs)
     returns
-    (search needs)
+    (λ c κs. search needs)
     (λ c. search needs)
     (λ c. search needs)
-    (search needs)
+    (λ c. search needs)
+    (λ c κs. search needs)
+    (λ c. search needs)
     (λ c. search needs)
     returns-2
     returns-3)

@@ -4,7 +4,8 @@ use Prim.Native.Nat.{_-_}
 use borrow.Author.Needs.{needs}
 use native.Mathlib.Omega.{arith}
 use lib.ListN.{take}
-use Rattle.octets.proofs.BigOrder.{differ-here, last-eight, eight-more, group-same}
+use Rattle.octets.proofs.BigOrder.{differ-here, last-eight, group-same}
+use Rattle.octets.proofs.Parts.{grow}
 use Rattle.octets.proofs.deciding_group.Statement.{statement}
 use Rattle.octets.proofs.deciding_group.Tie as tie
 
@@ -25,7 +26,7 @@ returns c =
 loop-again : tie.Need-loop-again Inv-loop μ-loop
 loop-again c =
     let l = c .before .before .before .before in
-    eight-more _ _ (l .loop .i) (l .loop .inv)
+    grow _ _ (l .loop .i) 8 (l .loop .inv)
     (group-same _ _ (l .loop .i) (λ k. l .before .before .shared-slice-known .given k .fits) (λ k. l .before .shared-slice-known2 .given k .fits) (omega arith) (omega arith) (cc))
 
 returns-2 : tie.Need-returns-2 Inv-loop μ-loop

@@ -4,9 +4,9 @@ use Prim.Native.Nat.{_-_, _≤_}
 use lib.ListN.{length, drop}
 use borrow.Author.Needs.{needs}
 use Rattle.crc.specs.Crc.{extend}
-use Rattle.crc.proofs.Lanes.{turn-some}
-use Rattle.crc.proofs.lane_with.Statement.{statement}
-use Rattle.crc.proofs.lane_with.Tie as tie
+use Rattle.crc.proofs.Parts.{turn-some}
+use Rattle.crc.proofs.rest_with.Statement.{statement}
+use Rattle.crc.proofs.rest_with.Tie as tie
 
 abbrev Inv-loop : tie.InvT-loop
 Inv-loop t crc bytes from r₀ i₀ r i = (i ≤ length bytes) × (extend crc (drop from bytes) ≡ extend r (drop i bytes))
@@ -23,8 +23,8 @@ loop-again c = (search needs, search turn-some)
 returns : tie.Need-returns Inv-loop μ-loop
 returns c = cc
 
-pub lane-with-spec : {M : Type 1} → statement M
-lane-with-spec =
+pub rest-with-spec : {M : Type 1} → statement M
+rest-with-spec =
     tie.close
     (tie.spec
     Inv-loop
