@@ -133,7 +133,7 @@ fn rest_with(t: &[u32; 2048], crc: u32, bytes: &[u8], from: usize) -> u32
     tail_with(t, r, bytes, i)
 }
 
-// The words of the join, 128 bytes. One function names them, as `tables` does; they are copied once a round.
+// The words of the join, 128 bytes. One function names them, as `tables` does; a round copies them once, and so does a lane's worth of zeros.
 fn lane_words() -> [u32; 32]
     ensures { λ r. ⌜ IsLaneWords r ⌝ }
 {
