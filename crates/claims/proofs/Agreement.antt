@@ -1,6 +1,6 @@
 -- Demand 3 holds.
-use Rattle.page.proofs.Agree.{pages-agree, lookup-is-handed-out}
-use Rattle.root.proofs.Agree.{roots-agree}
+use Rattle.pages.proofs.Agree.{pages-agree, lookup-is-handed-out}
+use Rattle.roots.proofs.Agree.{roots-agree}
 use Rattle.group.proofs.Agree.{groups-agree, expanded-slots, expanded-groups-agree}
 use Rattle.claims.specs.Agreement.{Demand3}
 

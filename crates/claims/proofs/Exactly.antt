@@ -1,8 +1,8 @@
 -- Demand 2's plain statements hold.
 use Rattle.utf8.proofs.Grammar.{utf8-is-grammar}
-use Rattle.root.proofs.LabelAccept.{label-exactly}
-use Rattle.root.proofs.Accept.{root-exactly}
-use Rattle.page.proofs.Accept.{page-exactly}
+use Rattle.roots.proofs.LabelAccept.{label-exactly}
+use Rattle.roots.proofs.Accept.{root-exactly}
+use Rattle.pages.proofs.Accept.{page-exactly}
 use Rattle.walk.proofs.Walked.{walked-exactly}
 use Rattle.group.proofs.Accept.{group-exactly}
 use Rattle.catalog.proofs.Accept.{catalog-exactly}

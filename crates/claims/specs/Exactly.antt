@@ -6,8 +6,8 @@ use mathlib.Core.List.{List}
 use Prim.Native.Nat.{ℕ}
 use Rattle.utf8.specs.Rfc3629.{Utf8}
 use Rattle.utf8.specs.Reading.{utf8}
-use Rattle.root.specs.Accept.{LabelExactly, RootExactly}
-use Rattle.page.specs.Accept.{PageExactly}
+use Rattle.roots.specs.Accept.{LabelExactly, RootExactly}
+use Rattle.pages.specs.Accept.{PageExactly}
 use Rattle.walk.specs.Entries.{WalkedExactly}
 use Rattle.group.specs.Accept.{GroupExactly}
 use Rattle.catalog.specs.Accept.{CatalogExactly}

@@ -2,8 +2,4 @@ pub mod Text
 pub mod Numbers
 pub mod Decode
 pub mod Choice
-pub mod Refs
-pub mod LabelAccept
-pub mod Accept
-pub mod Agree
 pub mod Cases

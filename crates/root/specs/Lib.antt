@@ -2,6 +2,4 @@ pub mod Label
 pub mod Fields
 pub mod Root
 pub mod Select
-pub mod Accept
-pub mod Agree
 pub mod Cases

@@ -19,11 +19,11 @@ use Rattle.utf8.specs.Reading.{_from_to_, read}
 use Rattle.utf8.specs.Plain.{allowed, plain}
 use Rattle.utf8.proofs.Grammar.{utf8-is-grammar}
 use Rattle.utf8.proofs.Plain.{plain-char}
 use Rattle.root.specs.Label.{dot, dots, isLabel, labelNew}
-use Rattle.root.specs.Accept.{HasCharacter, MayStand, LabelHolds, LabelExactly}
-use Rattle.root.specs.Accept.HasCharacter.{here, later}
+use Rattle.roots.specs.Accept.{HasCharacter, MayStand, LabelHolds, LabelExactly}
+use Rattle.roots.specs.Accept.HasCharacter.{here, later}
 use Rattle.root.proofs.Text.{tests-hold, holds-tests}
-use Rattle.root.proofs.Refs.{never-holds}
+use Rattle.roots.proofs.Refs.{never-holds}
 
 -- ---- characters
 

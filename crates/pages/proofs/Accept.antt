@@ -20,11 +20,11 @@ use Rattle.crc.specs.Crc.{crc32cWithZero}
 use Rattle.volume.specs.declared.TreeRef.{TreeRef}
 use Rattle.volume.specs.declared.TreeKind.{TreeKind}
 use Rattle.volume.specs.References.{treeKindValue, validateBlocks, validatePageRef, validateUuid}
 use Rattle.page.specs.declared.Expected.{Expected}
 use Rattle.page.specs.declared.Page.{Page}
 use Rattle.page.specs.Header.{magic, pageKind, treeKind, level, selfBlock, generation, count, payloadLength, total, callerDemands, checkCaller, checksumFits, formatDemands, checkFormat, isPageKind, isTreeKind, levelFits, reservedZero, isOfTree, kindDemands, checkKind, isReferred, hasUuid, identityDemands, checkIdentity, headerDemands, validatePageHeader}
 use Rattle.page.specs.Page.{validatePageRecords, totalFits, paddingZero, enoughChildren, contentDemands, checkContent, pageDemands, checkPage, refusedPage, acceptedPage, decodePage}
-use Rattle.page.specs.Accept.{CallerHolds, HeaderHolds, ContentHolds, PageHolds, PageExactly}
+use Rattle.pages.specs.Accept.{CallerHolds, HeaderHolds, ContentHolds, PageHolds, PageExactly}
 
 -- ---- tests that ask only under a condition
 

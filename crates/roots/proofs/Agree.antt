@@ -16,13 +16,13 @@ use Rattle.octets.proofs.Digits.{field-same}
 use Rattle.crc.specs.Crc.{crc32c, zeroed, crc32cWithZero}
 use Rattle.crc.proofs.Parts.{parts, zeroed-parts}
 use Rattle.volume.specs.declared.TreeRef.{TreeRef}
 use Rattle.root.specs.declared.Root.{Root}
 use Rattle.root.specs.Label.{labelOf, textOf}
 use Rattle.volume.specs.References.{refAt}
 use Rattle.root.specs.Root.{labelLength, labelText, rootOf, rootDecode}
-use Rattle.root.specs.Accept.{RootHolds}
-use Rattle.root.specs.Agree.{LabelsAgree, FieldsAgree, RootsAgree}
-use Rattle.root.proofs.Accept.{root-exactly, root-read}
+use Rattle.roots.specs.Accept.{RootHolds}
+use Rattle.roots.specs.Agree.{LabelsAgree, FieldsAgree, RootsAgree}
+use Rattle.roots.proofs.Accept.{root-exactly, root-read}
 
 -- ---- labels
 

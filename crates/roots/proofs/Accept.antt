@@ -23,13 +23,13 @@ use Rattle.crc.specs.Crc.{crc32cWithZero}
 use Rattle.utf8.proofs.Grammar.{utf8-is-grammar}
 use Rattle.volume.specs.Blocks.{isBankRoot}
 use Rattle.volume.specs.References.{refAt, validateRootSlot, validateUuid, validateTreeRef, validateWorkspaceRef}
 use Rattle.root.specs.declared.Decoded.{Decoded}
 use Rattle.root.specs.Fields.{generalDemands, checkGeneral, refsDemands, checkRefs, workspaceDemands, checkWorkspace, treesDemands, checkTrees, maxId, numbersDemands, checkNumbers, fieldDemands, validateRootFields}
 use Rattle.volume.specs.Groups.{groupsOf}
 use Rattle.root.specs.Root.{magic, labelLength, labelText, labelPadding, rootOf, placeDemands, checkPlace, checksumFits, areSizesRight, envelopeDemands, checkEnvelope, textDemands, checkText, labelFieldDemands, checkLabel, identityDemands, checkIdentity, blockDemands, checkBlock, rootRefused, rootDemands, rootDecode}
-use Rattle.root.specs.Accept.{LabelHolds, TreeHolds, RootHolds, RootExactly}
-use Rattle.root.proofs.LabelAccept.{label-accepted, accepted-label}
-use Rattle.root.proofs.Refs.{zeros-are, zeros-zero, enough-blocks, slot-place, place-slot, uuid-some, some-uuid, tree-holds, holds-tree, workspace-holds, holds-workspace, bank-root, is-bank-root}
+use Rattle.roots.specs.Accept.{LabelHolds, TreeHolds, RootHolds, RootExactly}
+use Rattle.roots.proofs.LabelAccept.{label-accepted, accepted-label}
+use Rattle.roots.proofs.Refs.{zeros-are, zeros-zero, enough-blocks, slot-place, place-slot, uuid-some, some-uuid, tree-holds, holds-tree, workspace-holds, holds-workspace, bank-root, is-bank-root}
 
 -- ---- three tests joined
 

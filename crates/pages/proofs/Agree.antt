@@ -24,15 +24,15 @@ use Rattle.octets.proofs.Digits.{bytes-drop}
 use Rattle.octets.proofs.Parts.{part-from}
 use Rattle.walk.proofs.Walked.{walk-reads}
 use Rattle.walk.proofs.Found.{scratch-free, runs-agree}
 use Rattle.page.specs.declared.Expected.{Expected}
 use Rattle.page.specs.declared.Page.{Page}
 use Rattle.page.specs.declared.view.PageView.{PageView}
 use Rattle.page.specs.Header.{level, total, count, payloadLength}
 use Rattle.page.specs.Page.{context, validatePageRecords, pageDemands, checkPage, refusedPage, acceptedPage, decodePage}
 use Rattle.page.specs.View.{Views}
-use Rattle.page.specs.Agree.{lookup, Accepted, Same, PagesAgree, handedOut, LookupIsHandedOut}
-use Rattle.page.proofs.Accept.{page-holds}
-use Rattle.page.proofs.Fields.{Good, page-same}
+use Rattle.pages.specs.Agree.{lookup, Accepted, Same, PagesAgree, handedOut, LookupIsHandedOut}
+use Rattle.pages.proofs.Accept.{page-holds}
+use Rattle.pages.proofs.Fields.{Good, page-same}
 
 value-is : (r : Number) → numberCheck r ≡ Passed → r ≡ Number.Value (numberOf r)
 value-is (Number.Value n) e = refl

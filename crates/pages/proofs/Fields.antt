@@ -20,9 +20,9 @@ use Rattle.crc.proofs.Parts.{parts, zeroed-parts}
 use Rattle.volume.specs.declared.TreeRef.{TreeRef}
 use Rattle.volume.specs.declared.TreeKind.{TreeKind}
 use Rattle.walk.specs.Entries.{Read}
 use Rattle.page.specs.declared.Expected.{Expected}
 use Rattle.page.specs.Header.{pageKind, level, total, count, payloadLength}
-use Rattle.page.specs.Accept.{PageHolds}
+use Rattle.pages.specs.Accept.{PageHolds}
 
 -- lists of one length that are all zero are the same
 zero-same : (a b : List ℕ) → length a ≡ length b → allZero a ≡ true → allZero b ≡ true → a ≡ b

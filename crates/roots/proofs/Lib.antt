@@ -1,0 +1,4 @@
+pub mod Refs
+pub mod LabelAccept
+pub mod Accept
+pub mod Agree
