@@ -6,6 +6,7 @@ use reference::format::{
     BLOCK_BYTES, Label, Root, TreeKind, TreeRef, compact_group, decode_page, encode_leaf, encode_node, seal_page,
     set_checksum_slot,
 };
+use std::collections::BTreeMap;
 use std::fmt::Write;
 
 type Block = [u8; BLOCK_BYTES];
@@ -671,30 +672,59 @@ fn blocks(file: &File) -> Vec<&[u8]> {
     found
 }
 
-/// Holds each dump of the paper to the file: a line `body N` opens one, then lines of an offset and bytes follow, up to
-/// the end of the fenced part. A line that starts otherwise is text.
-fn dumps(paper: &str, file: &File) -> Result<usize, String> {
-    let blocks = blocks(file);
-    let (mut body, mut lines) = (None, 0);
+/// Rebuilds the blocks that the paper's dumps give and holds each to its body, all 4,096 bytes of it. A line `body N` opens
+/// a dump, of volume.readback, or of readback.bin where it says so; lines of an offset and bytes follow, or of one byte and
+/// `to` its last place. What no line shows is zero, or as in another body where the opening line says so.
+fn dumps(paper: &str) -> Result<usize, String> {
+    let files = [volume(), readback()];
+    let bodies = [blocks(&files[0]), blocks(&files[1])];
+    let mut built: BTreeMap<(usize, usize), Block> = BTreeMap::new();
+    let (mut open, mut lines) = (None, 0);
     for line in paper.lines() {
+        let wrong = || format!("not a line of a dump: {line}");
+        let number = |text: &str| text.parse::<usize>().map_err(|_| wrong());
         if line.starts_with("```") {
-            body = None;
+            open = None;
+        } else if let Some(rest) = line.strip_prefix("body ") {
+            let (head, like) = rest.split_once("; what isn't shown").unwrap_or((rest, ""));
+            let (head, file) = head.strip_suffix(" of readback.bin").map_or((head, 0), |head| (head, 1));
+            let body = (file, number(head)?);
+            let mut block = [0; BLOCK_BYTES];
+            if let Some((part, other)) = like.split_once(" is as in body ") {
+                let length = match part {
+                    "" => BLOCK_BYTES,
+                    " of bytes 0..55" => 56,
+                    _ => return Err(wrong()),
+                };
+                let other = built.get(&(0, number(other)?)).ok_or_else(wrong)?;
+                put(&mut block, 0, &other[..length]);
+            }
+            built.entry(body).or_insert(block);
+            open = Some(body);
+        } else if let Some(body) = open {
+            let (at, rest) = line.trim_start().split_once("  ").ok_or_else(wrong)?;
+            let shown = rest.split("  ").next().unwrap_or_default();
+            let at = number(at)?;
+            let byte = |word: &str| u8::from_str_radix(word, 16).map_err(|_| wrong());
+            let bytes = match shown.split_once(" to ") {
+                Some((word, last)) => vec![byte(word)?; (number(last)? + 1).saturating_sub(at)],
+                None => shown.split(' ').map(byte).collect::<Result<_, _>>()?,
+            };
+            let block = built.get_mut(&body).ok_or_else(wrong)?;
+            block.get_mut(at..at + bytes.len()).ok_or_else(wrong)?.copy_from_slice(&bytes);
+            lines += 1;
         }
-        if let Some(rest) = line.strip_prefix("body ") {
-            let number: String = rest.chars().take_while(char::is_ascii_digit).collect();
-            body = Some(number.parse::<usize>().map_err(|_| format!("no body: {line}"))?);
-        }
-        let (Some(body), Some((at, rest))) = (body, line.trim_start().split_once("  ")) else { continue };
-        let Ok(at) = at.parse::<usize>() else { continue };
-        let words = rest.split("  ").next().unwrap_or_default().split(' ');
-        let bytes: Vec<u8> = words.map_while(|word| u8::from_str_radix(word, 16).ok()).collect();
-        let block = blocks.get(body).ok_or(format!("no body {body}"))?;
-        if bytes.is_empty() || block.get(at..at + bytes.len()) != Some(&bytes[..]) {
-            return Err(format!("body {body} differs at {at}: {line}"));
-        }
-        lines += 1;
     }
-    Ok(lines)
+    for ((file, body), block) in &built {
+        let due = bodies[*file].get(*body).ok_or(format!("no body {body}"))?;
+        if let Some(at) = (0..BLOCK_BYTES).find(|&at| block[at] != due[at]) {
+            return Err(format!("body {body} of {}: the paper is wrong at {at}", ["volume.readback", "readback.bin"][*file]));
+        }
+    }
+    match (0..bodies[0].len()).find(|&body| !built.contains_key(&(0, body))) {
+        Some(body) => Err(format!("the paper has no dump of body {body}")),
+        None => Ok(lines),
+    }
 }
 
 fn main() -> Result<(), String> {
@@ -713,9 +743,9 @@ fn main() -> Result<(), String> {
             write(format!("{dir}/CONTENTS.md"), out.as_bytes())
         }
         ["dumps", paper] => {
-            let lines = dumps(&read(paper)?, &volume())?;
-            println!("samples: {lines} lines of dumps in {paper} are those of volume.readback");
-            if lines == 0 { Err("no dump found".into()) } else { Ok(()) }
+            let lines = dumps(&read(paper)?)?;
+            println!("samples: {lines} lines of dumps in {paper} give every byte of their blocks");
+            Ok(())
         }
         _ => Err("samples files DIR | contents DIR HEAD | dumps PAPER".into()),
     }
