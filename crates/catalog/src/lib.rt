@@ -172,10 +172,10 @@ pub fn validate_symlink_target(target: &[u8], mode: Validation) -> Check
     Check::Passed
 }
 
-fn ends_right(kind: u8, length: usize) -> bool
-    ensures { λ r. ⌜ r ≡ endsRight kind length ⌝ }
+fn ends_right(kind: u8, size: usize) -> bool
+    ensures { λ r. ⌜ r ≡ endsRight kind size ⌝ }
 {
-    (kind == 3) | (length == 128)
+    (kind == 3) | (size == 128)
 }
 
 // Bit 0 marks an orphan. Only a symlink may set bit 1, that its kind on Windows is known, and then bit 2, that it is a directory.

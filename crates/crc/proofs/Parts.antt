@@ -6,8 +6,9 @@ use native.Mathlib.Nat.{sub-zero, suc-sub-suc, le-refl, le-of-suc-le-suc, not-su
 use native.Mathlib.Omega.{arith}
 use lib.ListN.{length, take, drop, getD, replicate, take-append-drop, length-drop, drop-of-length-le, replicate-append-replicate}
 use lib.Seq.{drop-cons, drop-drop, take-all}
-use Rattle.crc.specs.Crc.{_⊕_, ones, stepByte, extend, crc32c, zeroed, crc32cWithZero}
+use Rattle.crc.specs.Crc.{ones, stepByte, extend, crc32c, zeroed, crc32cWithZero}
 use Rattle.crc.specs.DataUnit.{unitBytes, tag, dataUnit}
+use Rattle.crc.proofs.Xor.{_⊕_}
 use Rattle.octets.specs.Bytes.{part}
 use Rattle.octets.specs.Number.{littleBytes}
 use Rattle.crc.proofs.Linear.{extend-append}

@@ -42,7 +42,7 @@ bisect part key offs (suc steps) low high =
     (cond (aboveAt part key (getD offs ((low + high) / 2) 0)) (bisect part key offs steps low ((low + high) / 2)) (bisect part key offs steps ((low + high) / 2 + 1) high))
     low
 
--- the record before an index
+-- the record before an index, none before the first
 abbrev pub before : List ℕ → ℕ → Floor
 before offs i = cond (ltb 0 i) (At (i - 1) (getD offs (i - 1) 0)) Nothing
 
@@ -75,11 +75,11 @@ floorAnswer part count key entries = answerOf (length part) count (floorAt part 
 abbrev pub noStep : ℕ → Step
 noStep n = record { found = false; «key_start» = 0; «key_end» = 0; «value_end» = 0; remaining = n }
 
--- over a record, or none over a broken one
+-- the step over a record; there is none over a broken one
 abbrev pub stepSplit : ℕ → Split → Step
 stepSplit n (Record k v) = record { found = true; «key_start» = 4; «key_end» = 4 + k; «value_end» = 4 + k + v; remaining = n - 1 }
 stepSplit n Broken = noStep n
 
--- section 5: the next record of n that are left: where its key starts and ends, where its value ends, and how many are left after it
+-- `next` of `Records`: the first of n records that are left: where its key starts and ends, where its value ends, and how many are left after it; none where n is 0, and none that is broken
 unfoldable pub nextRecord : List ℕ → ℕ → Step
 nextRecord part n = cond (ltb 0 n) (stepSplit n (splitRecord part)) (noStep n)

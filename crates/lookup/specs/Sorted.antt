@@ -34,7 +34,7 @@ abbrev pub IsFloor : List ℕ → ℕ → List ℕ → Floor → Type 0
 IsFloor part count key (At i o) = (i < count) × (o ≡ offsetOf part i) × (keyAbove part key i ≡ false) × ((j : ℕ) → i < j → j < count → keyAbove part key j ≡ true)
 IsFloor part count key Nothing = (j : ℕ) → j < count → keyAbove part key j ≡ true
 
--- on such a part every lookup answers so
+-- on such a part, of at most 65,535 bytes, every lookup answers so
 abbrev pub FloorIsTheLast : Type 0
 FloorIsTheLast = (part key : List ℕ) (count : ℕ) → Sorted part count → (entries : ℕ) → length part ≤ 65535 → IsFloor part count key (floorAt part count key entries)
 

@@ -57,13 +57,13 @@ fn le64(bytes: &[u8], at: usize) -> u64
 }
 
 // Whether a field of so many bytes at an offset lies within so many bytes.
-fn lies_within(length: usize, offset: usize, width: usize) -> bool
-    ensures { λ r. ⌜ r ≡ leb (offset + width) length ⌝ }
+fn lies_within(size: usize, offset: usize, width: usize) -> bool
+    ensures { λ r. ⌜ r ≡ leb (offset + width) size ⌝ }
 {
-    if length < width {
+    if size < width {
         return false;
     }
-    offset <= length - width
+    offset <= size - width
 }
 
 // The number at an offset, or corruption with the caller's reason.

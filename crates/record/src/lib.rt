@@ -296,10 +296,10 @@ fn cleanup_record(
     Check::Refused(error::violation(mode, reason::UNKNOWN_CLEANUP_RECORD_KIND))
 }
 
-fn is_cleanup_length(length: usize) -> bool
-    ensures { λ r. ⌜ r ≡ isCleanupLength length ⌝ }
+fn is_cleanup_length(size: usize) -> bool
+    ensures { λ r. ⌜ r ≡ isCleanupLength size ⌝ }
 {
-    (length == 9) | (length == 17)
+    (size == 9) | (size == 17)
 }
 
 // Check a record of the cleanup tree.
@@ -402,17 +402,17 @@ fn retirement_key(
     Check::Passed
 }
 
-fn is_retirement_key(kind: u8, length: usize) -> bool
-    ensures { λ r. ⌜ r ≡ isRetirementKey kind length ⌝ }
+fn is_retirement_key(kind: u8, size: usize) -> bool
+    ensures { λ r. ⌜ r ≡ isRetirementKey kind size ⌝ }
 {
-    (kind == 1) & (length == 17)
+    (kind == 1) & (size == 17)
 }
 
 // A detached tree's key holds its job, an orphan's its object.
-fn is_owner_key(kind: u8, length: usize) -> bool
-    ensures { λ r. ⌜ r ≡ isOwnerKey kind length ⌝ }
+fn is_owner_key(kind: u8, size: usize) -> bool
+    ensures { λ r. ⌜ r ≡ isOwnerKey kind size ⌝ }
 {
-    ((kind == 2) | (kind == 3)) & (length == 9)
+    ((kind == 2) | (kind == 3)) & (size == 9)
 }
 
 fn cleanup_internal_key(key: &[u8], blocks: u64, page_generation: u64, mode: Validation) -> Check

@@ -22,7 +22,7 @@ use Rattle.octets.specs.Order.{order, isLess}
 use Rattle.octets.specs.declared.Order.the-variants.{Less}
 use Rattle.volume.specs.Numbers.{largest}
 use Rattle.lookup.specs.Record.{keyLen, valueLen, recordLen, keyOf, valueOf}
-use Rattle.walk.specs.Records.{Own, formDemands, formCheck, among, nextTotal, nextBlocks, joinDemands, joinCheck, ownAnswer, recordDemands, walk, sizeDemands, records}
+use Rattle.walk.specs.Records.{Own, formDemands, formCheck, isOneOf, nextTotal, nextBlocks, joinDemands, joinCheck, ownAnswer, recordDemands, walk, sizeDemands, records}
 use Rattle.walk.specs.Entries.{Entry, stored, laid, Increasing, Fit, numbers, Walked, WalkedExactly}
 use Rattle.walk.proofs.Stored.{key-read, value-read, stored-length, key-stored, value-stored, entryOf, key-length, value-length, stored-front}
 use Rattle.walk.proofs.Joins.{Apart, apart-none, apart-start, apart-more, apart-rest}
@@ -64,9 +64,9 @@ none-left leaf own rest left previous total seen answer z t = record {
 }
 
 -- what the last check of a record says: a child's block is none of those before it, a leaf's total stays small
-fresh-block : (mode : Validation) (total : ℕ) (seen : List ℕ) (n : ℕ) → joinCheck false total seen n mode ≡ Passed → among n seen ≡ false
+fresh-block : (mode : Validation) (total : ℕ) (seen : List ℕ) (n : ℕ) → joinCheck false total seen n mode ≡ Passed → isOneOf n seen ≡ false
 unfolding joinCheck
-fresh-block mode total seen n e = not-true (among n seen) (all-hold (joinDemands false total seen n mode) e .0)
+fresh-block mode total seen n e = not-true (isOneOf n seen) (all-hold (joinDemands false total seen n mode) e .0)
 
 small-total : (mode : Validation) (total : ℕ) (seen : List ℕ) (n : ℕ) → joinCheck true total seen n mode ≡ Passed → total + n < 2 ^ 64
 unfolding joinCheck
@@ -221,7 +221,7 @@ join-leaf : (mode : Validation) (total : ℕ) (seen : List ℕ) (n : ℕ) → to
 unfolding joinCheck
 join-leaf mode total seen n h = all-pass (joinDemands true total seen n mode) (le-leb (total + n) largest (omega arith), tt)
 
-join-child : (mode : Validation) (total : ℕ) (seen : List ℕ) (n : ℕ) → among n seen ≡ false → joinCheck false total seen n mode ≡ Passed
+join-child : (mode : Validation) (total : ℕ) (seen : List ℕ) (n : ℕ) → isOneOf n seen ≡ false → joinCheck false total seen n mode ≡ Passed
 unfolding joinCheck
 join-child mode total seen n h = all-pass (joinDemands false total seen n mode) (ap not h, tt)
 
