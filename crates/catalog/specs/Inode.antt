@@ -74,7 +74,7 @@ inodeTarget value = drop 128 value
 
 -- `validate_inode`, READING-RULES 9.2: a symlink (type 3) goes on with its target, of whatever size the value is; every other inode has 128 bytes
 abbrev pub endsRight : ℕ → ℕ → Bool
-endsRight type size = eqb type 3 || eqb size 128
+endsRight type len = eqb type 3 || eqb len 128
 
 -- `validate_inode`, READING-RULES 9.2: flags are at most 7: bit 0 marks an orphan; only a symlink (type 3) may have bit 1, its kind on Windows is recorded, and then bit 2, that kind is directory
 abbrev pub flagsAllowed : ℕ → ℕ → Bool

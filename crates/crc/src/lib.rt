@@ -29,7 +29,7 @@ const ROUND: usize = 3 * LANE;
 // The reason of a string that isn't in the list of reasons.
 const UNLISTED: u16 = 0;
 
-// A constant array is copied to the stack by each call of the function that names it: so one function does, a public call
+// The eight tables. A constant array is copied to the stack by each call of the function that names it: so one function does, a public call
 // makes one copy, and what looks words up is lent that.
 fn tables() -> [u32; 2048]
     ensures { λ r. ⌜ IsTables r ⌝ }
@@ -52,7 +52,7 @@ fn le32(b0: u8, b1: u8, b2: u8, b3: u8) -> u32
     b0 as u32 | (b1 as u32) << 8 | (b2 as u32) << 16 | (b3 as u32) << 24
 }
 
-// One byte.
+// The register `crc` after one byte.
 fn step1(t: &[u32; 2048], crc: u32, b: u8) -> u32
     requires { ⌜ IsTables (now t) ⌝ }
     ensures { λ r. ⌜ r ≡ stepByte crc b ⌝ }
@@ -60,7 +60,7 @@ fn step1(t: &[u32; 2048], crc: u32, b: u8) -> u32
     (crc >> 8) ^ entry(t, 0, crc ^ b as u32)
 }
 
-// Eight bytes. The look-ups that need not wait for the register come first.
+// The register `crc` after eight bytes. The look-ups that need not wait for the register come first.
 fn step8(
     t: &[u32; 2048],
     crc: u32,

@@ -21,17 +21,17 @@ maxId = 2 ^ 63 - 1
 
 -- `validate_root_fields`, READING-RULES 6.2: the volume and the slot, the UUID, the generation and the blocks, and the workspace cursor
 abbrev pub generalDemands : List ℕ → ℕ → ℕ → ℕ → ℕ → ℕ → Validation → List Demand
-generalDemands uuid generation size cursor slot blocks mode =
+generalDemands uuid generation ownBlocks cursor slot blocks mode =
     passing (validateBlocks blocks mode)
     ∷ passing (validateRootSlot slot blocks mode)
     ∷ passing (validateUuid uuid mode)
-    ∷ (not (eqb generation 0) && eqb size blocks) otherwise violationOf mode reason.invalidRootGenerationOrGeometry
+    ∷ (not (eqb generation 0) && eqb ownBlocks blocks) otherwise violationOf mode reason.invalidRootGenerationOrGeometry
     ∷ ltb cursor (groupsOf blocks) otherwise violationOf mode reason.workspaceScanCursorExceedsGeometry
     ∷ []
 
 -- 01, "Return classes": the first that fails answers
 unfoldable pub checkGeneral : List ℕ → ℕ → ℕ → ℕ → ℕ → ℕ → Validation → Check
-checkGeneral uuid generation size cursor slot blocks mode = demands (generalDemands uuid generation size cursor slot blocks mode)
+checkGeneral uuid generation ownBlocks cursor slot blocks mode = demands (generalDemands uuid generation ownBlocks cursor slot blocks mode)
 
 -- `validate_root_fields`, READING-RULES 6.2: the references of the three trees, each by itself
 abbrev pub refsDemands : TreeRef → TreeRef → TreeRef → ℕ → Validation → List Demand
