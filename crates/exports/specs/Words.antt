@@ -64,7 +64,7 @@ rootText r = r .uuid ++ r .label .bytes
 
 -- what is asked of a page has a UUID of 16 bytes, a kind of 1 to 4, and a level of at most 255
 unfoldable pub canAsk : ℕ → ℕ → ℕ → Bool
-canAsk len kind level = eqb len 16 && isTreeKindValue kind && leb level 255
+canAsk size kind level = eqb size 16 && isTreeKindValue kind && leb level 255
 
 -- class, reason, level, total, count, where the payload starts, its length
 unfoldable pub pageWords : Page → List ℕ

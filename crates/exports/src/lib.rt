@@ -200,10 +200,10 @@ pub extern "C" fn carryfs_root(
     0
 }
 
-fn can_ask(len: usize, kind: u32, level: u32) -> bool
-    ensures { λ r. ⌜ r ≡ canAsk len kind level ⌝ }
+fn can_ask(size: usize, kind: u32, level: u32) -> bool
+    ensures { λ r. ⌜ r ≡ canAsk size kind level ⌝ }
 {
-    (len == 16) & ((1 <= kind) & (kind <= 4)) & (level <= 255)
+    (size == 16) & ((1 <= kind) & (kind <= 4)) & (level <= 255)
 }
 
 fn page_words(page: Page) -> [u64; 7]
