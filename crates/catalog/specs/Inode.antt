@@ -123,7 +123,7 @@ inodeTimeDemands value mode =
     ∷ passing (validateTimestamp value 72 mode)
     ∷ []
 
--- 01, "Misreadings": the type, 1 to 3, is tested before the length; an empty value has no type, and its length is refused
+-- 01, "Misreadings": the type, 1 to 3, is tested before the length, 128 and for a symlink 128 or more; an empty value has no type, and its length is refused
 abbrev pub inodeShapeDemands : List ℕ → Validation → List Demand
 inodeShapeDemands value mode =
     not (eqb (length value) 0) otherwise violationOf mode reason.invalidInodeLength

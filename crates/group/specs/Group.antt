@@ -66,7 +66,7 @@ holeZero g s = present g s || eqb (word g s) 0
 unfoldable pub holesZero : List ℕ → Bool
 holesZero value = every (holeZero value) (storedSlots value)
 
--- `validate_checksum_group`: the largest index of a group: a file has 2^63 - 1 bytes at most, a group 256 units of 65,536
+-- `MAX_CHECKSUM_GROUP`: the largest index of a group: a file has 2^63 - 1 bytes at most, a group 256 units of 65,536
 abbrev pub maxChecksumGroup : ℕ
 maxChecksumGroup = (2 ^ 63 - 1) / (256 * 65536)
 

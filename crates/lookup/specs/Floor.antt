@@ -80,6 +80,6 @@ abbrev pub stepSplit : ℕ → Split → Step
 stepSplit n (Record k v) = record { found = true; «key_start» = 4; «key_end» = 4 + k; «value_end» = 4 + k + v; remaining = n - 1 }
 stepSplit n Broken = noStep n
 
--- `next` of `Records`: the first of n records that are left: where its key starts and ends, where its value ends, and how many are left after it; none where n is 0, and none that is broken
+-- `next` of `Records`: the first of n records that are left: where its key starts and ends, where its value ends, and how many are left after it; there is none where n is 0 or it is broken
 unfoldable pub nextRecord : List ℕ → ℕ → Step
 nextRecord part n = cond (ltb 0 n) (stepSplit n (splitRecord part)) (noStep n)

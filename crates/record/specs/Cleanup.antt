@@ -83,7 +83,7 @@ detachedTreeDemands key value blocks pageGeneration mode =
 unfoldable pub validateDetachedTree : List ℕ → List ℕ → ℕ → ℕ → Validation → Check
 validateDetachedTree key value blocks pageGeneration mode = demands (detachedTreeDemands key value blocks pageGeneration mode)
 
--- `validate_cleanup_key_value`, READING-RULES 12.2: what is asked of an orphan marker, in order: the lengths, no value, and the object in the key
+-- `validate_cleanup_key_value`, READING-RULES 12.2: what is asked of an orphan marker, in order: a key of 9 bytes and no value, and the object in the key
 abbrev pub orphanMarkerDemands : List ℕ → List ℕ → Validation → List Demand
 orphanMarkerDemands key value mode =
     (eqb (length key) 9 && eqb (length value) 0) otherwise violationOf mode reason.invalidOrphanMarker
