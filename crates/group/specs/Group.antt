@@ -27,7 +27,7 @@ word g s = u32At g (32 + 4 * s)
 unfoldable pub storedSlots : List ℕ → ℕ
 storedSlots g = through (present g) 256
 
--- the bytes of a stored group
+-- how many bytes a stored group has: the bitmap and the words of those slots
 abbrev pub storedBytes : List ℕ → ℕ
 storedBytes g = 32 + 4 * storedSlots g
 
