@@ -7,14 +7,14 @@ use lib.ListN.{length, drop}
 use Rattle.octets.specs.Order.{order, isGreater}
 use Rattle.octets.specs.declared.Order.the-variants.{Less}
 use Rattle.lookup.specs.Record.{splitRecord, isRecord, keyOf}
-use Rattle.lookup.specs.Floor.{next, floorAt}
+use Rattle.lookup.specs.Floor.{nextOffset, floorAt}
 use Rattle.lookup.specs.declared.Floor.{Floor}
 use Rattle.lookup.specs.declared.Floor.the-variants.{At, Nothing}
 
 -- where record k starts
 unfoldable pub offsetOf : List ℕ → ℕ → ℕ
 offsetOf part zero = 0
-offsetOf part (suc k) = next part (offsetOf part k)
+offsetOf part (suc k) = nextOffset part (offsetOf part k)
 
 -- its key
 abbrev pub keyAt : List ℕ → ℕ → List ℕ
