@@ -15,7 +15,7 @@ use Rattle.page.specs.Header.{expectedOf}
 use Rattle.page.specs.Page.{decodePage}
 use Rattle.report.specs.Line.{rootFields, pageFields, bodyLine}
 
--- kind 1: slot u64, blocks u64, block
+-- the answer on a body of kind 1: slot u64, blocks u64, block
 abbrev pub rootIn : List ℕ → Decoded
 rootIn body = rootDecode (drop 16 body) (u64At body 0) (u64At body 8)
 
@@ -28,7 +28,7 @@ decodedLine number d =
 unfoldable pub rootBodyLine : ℕ → List ℕ → List ℕ
 rootBodyLine number body = decodedLine number (rootIn body)
 
--- kind 2: block u64, generation u64, UUID, tree kind, parent generation u64, expected level (255 = not given), blocks u64, page
+-- the answer on a body of kind 2: block u64, generation u64, UUID, tree kind, parent generation u64, expected level (255 = not given), blocks u64, page
 abbrev pub pageIn : List ℕ → Page
 pageIn body =
     decodePage (refAt body 0) (paddedTo 16 (drop 16 body)) (treeKindOf (byteAt body 32)) (u64At body 33) (expectedOf (byteAt body 41)) (u64At body 42)

@@ -1,4 +1,4 @@
--- Each kind of record (01, section 5) is accepted exactly when each of its demands holds; no order is in it.
+-- What the catalog's checks accept (01, section 5, and the Rust's field rules): each accepts exactly when each of its demands holds; no order is in it.
 use Prim.Native.Nat.{ℕ}
 use mathlib.Core.Path.{_≡_}
 use mathlib.Core.Logic.{_↔_}
@@ -14,7 +14,7 @@ use Rattle.catalog.specs.Inode.{symlinkTargetDemands, validateSymlinkTar
 use Rattle.catalog.specs.Entry.{directoryEntryDemands, validateDirectoryEntry}
 use Rattle.catalog.specs.Extent.{extentCount, extentDemands, validateExtent}
 
--- section 5: owners, keys, times, symlink targets, inodes, entries and extents
+-- owners, keys, times, symlink targets, inodes, directory entries and extents
 pub record CatalogExactly : Type 0 where
   pub owner : (owner : ℕ) (mode : Validation) → (validateOwnerId owner mode ≡ Passed) ↔ AllHold (ownerDemands owner mode)
   pub catalog-key : (key : List ℕ) (mode : Validation) (kind : ℕ) → (validateCatalogKey key mode ≡ Number.Value kind) ↔ (AllHold (catalogKeyDemands key mode) × (kind ≡ keyKind key))

@@ -1,4 +1,4 @@
--- Directory entries (01, section 5).
+-- Directory entries (01, section 5: field rules are the Rust's, here those of `validate_directory_entry`).
 use Prim.Native.Nat.{ℕ, _+_}
 use mathlib.Core.Bool.{Bool, _&&_}
 use mathlib.Core.List.{List, [], _∷_}
@@ -14,32 +14,32 @@ use Rattle.octets.specs.Number.{u16At, u64At}
 use Rattle.utf8.specs.Reading.{utf8}
 use Rattle.catalog.specs.Keys.{validateOwnerId}
 
--- section 5: u64 at 0, the object that it names
+-- `validate_directory_entry`, READING-RULES 9.3: u64 at 0, the object that it names
 abbrev pub entryTarget : List ℕ → ℕ
 entryTarget value = u64At value 0
 
--- section 5: byte 8, the type of what it names
+-- `validate_directory_entry`, READING-RULES 9.3: byte 8, the type of what it names
 abbrev pub entryType : List ℕ → ℕ
 entryType value = byteAt value 8
 
--- section 5: byte 9, reserved
+-- `validate_directory_entry`, READING-RULES 9.3: byte 9, reserved
 abbrev pub entryReserved : List ℕ → ℕ
 entryReserved value = byteAt value 9
 
--- section 5: u16 at 10, the length of its name
+-- `validate_directory_entry`, READING-RULES 9.3: u16 at 10, the length of its name
 abbrev pub entryNameLength : List ℕ → ℕ
 entryNameLength value = u16At value 10
 
--- section 5: from byte 12 on, its name
+-- `validate_directory_entry`, READING-RULES 9.3: from byte 12 on, its name
 abbrev pub entryName : List ℕ → List ℕ
 entryName value = drop 12 value
 
--- a name is 1 to 255 bytes of UTF-8, as long as the entry says, and ends it; any character may stand in it
+-- `validate_directory_entry`, READING-RULES 9.3: a name is 1 to 255 bytes of UTF-8, as long as the entry says, and ends it; any character may stand in it
 unfoldable pub isEntryName : List ℕ → Bool
 isEntryName value =
     leb 1 (entryNameLength value) && leb (entryNameLength value) 255 && eqb (length value) (12 + entryNameLength value) && utf8 (entryName value)
 
--- section 5: what is asked of an entry, in order
+-- `validate_directory_entry`, READING-RULES 9.3: what is asked of an entry, in order
 abbrev pub directoryEntryDemands : List ℕ → Validation → List Demand
 directoryEntryDemands value mode =
     leb 12 (length value) otherwise violationOf mode reason.directoryEntryIsTooShort
@@ -49,6 +49,6 @@ directoryEntryDemands value mode =
     ∷ isEntryName value otherwise violationOf mode reason.invalidDirectoryEntryName
     ∷ []
 
--- section 5: the first that fails answers
+-- 01, "Return classes": the first that fails answers
 unfoldable pub validateDirectoryEntry : List ℕ → Validation → Check
 validateDirectoryEntry value mode = demands (directoryEntryDemands value mode)

@@ -91,7 +91,7 @@ fn seconds_in_range(seconds: i64) -> bool
     (-11_644_473_600 <= seconds) & (seconds <= 253_402_300_799)
 }
 
-// Check a timestamp against the years 1601 through 9999.
+// Check a timestamp: seconds in the years 1601 through 9999, at most 999,999,999 nanoseconds.
 pub fn validate_timestamp_range(seconds: i64, nanos: u32, mode: Validation) -> Check
     ensures { λ r. ⌜ r ≡ validateTimestampRange seconds nanos mode ⌝ }
 {
@@ -172,13 +172,13 @@ pub fn validate_symlink_target(target: &[u8], mode: Validation) -> Check
     Check::Passed
 }
 
-fn ends_right(kind: u8, length: usize) -> bool
-    ensures { λ r. ⌜ r ≡ endsRight kind length ⌝ }
+fn ends_right(kind: u8, len: usize) -> bool
+    ensures { λ r. ⌜ r ≡ endsRight kind len ⌝ }
 {
-    (kind == 3) | (length == 128)
+    (kind == 3) | (len == 128)
 }
 
-// Bit 0 marks an orphan. Only a symlink may set bit 1, that its kind on Windows is known, and then bit 2, that it is a directory.
+// Bit 0 marks an orphan. Only a symlink may set bit 1, its kind on Windows is recorded, and then bit 2, that kind is directory. No other bit is set.
 fn flags_allowed(kind: u8, flags: u8) -> bool
     ensures { λ r. ⌜ r ≡ flagsAllowed kind flags ⌝ }
 {
@@ -400,7 +400,7 @@ fn extent_range(
     Number::Value(count)
 }
 
-// Check an extent record; its block count.
+// Check an extent record, first that its key has 17 bytes; its block count.
 pub fn validate_extent(key: &[u8], value: &[u8], blocks: u64, mode: Validation) -> Number
     ensures { λ r. ⌜ r ≡ validateExtent (now (key .entry)) (now (value .entry)) blocks mode ⌝ }
 {

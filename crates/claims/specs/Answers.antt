@@ -50,21 +50,21 @@ abbrev pub isAnswer : ℕ → ℕ → Bool
 isAnswer class reason =
     ((eqb class 0 || (eqb class 1 || eqb class 4)) && eqb reason 0) || ((eqb class 2 || (eqb class 3 || eqb class 6)) && isReason reason)
 
--- a check, a check that gives a number, and a page's numbers
+-- a check answers a class and a reason of the table
 pub record Answers (c : Check) : Type 0 where
   pub told : isAnswer (checkClass c) (checkReason c) ≡ true
 
--- the same of a call that gives a number
+-- so does a check that gives a number
 abbrev pub NumberAnswers : Number → Type 0
 NumberAnswers n = Answers (numberCheck n)
 
--- the same of a call that gives a page's numbers
+-- so does a call that gives a page's numbers
 abbrev pub PageAnswers : Page → Type 0
 PageAnswers p = isAnswer (p .class) (p .reason) ≡ true
 
 -- demand 1, call by call, by the sections of 01
 pub record Demand1 : Type 0 where
-  -- section 2: blocks, references and slots
+  -- section 2: blocks, references and slots; and what stands beside them, UUIDs and the count of groups
   pub blocks : (blocks : ℕ) (mode : Validation) → Answers (validateBlocks blocks mode)
   pub tree-ref : (reference : TreeRef) (blocks : ℕ) (mode : Validation) → Answers (validateTreeRef reference blocks mode)
   pub page-ref : (reference : TreeRef) (kind : TreeKind) (blocks : ℕ) (mode : Validation) → Answers (validatePageRef reference kind blocks mode)
@@ -82,7 +82,7 @@ pub record Demand1 : Type 0 where
   pub page : (reference : TreeRef) (uuid : List ℕ) (kind : TreeKind) (parent : ℕ) (expected : Expected) (blocks : ℕ) (page : List ℕ) → PageAnswers (decodePage reference uuid kind parent expected blocks page)
   pub verified : (reference : TreeRef) (uuid : List ℕ) (kind : TreeKind) (parent : ℕ) (expected : Expected) (page : List ℕ) → PageAnswers (verifiedPageView reference uuid kind parent expected page)
   pub draft : (page : List ℕ) → PageAnswers (draftPageView page)
-  -- section 5: records of every kind, and the walk over them
+  -- section 5: owners, keys, times, targets, records of every kind, and the walk over them
   pub owner : (owner : ℕ) (mode : Validation) → Answers (validateOwnerId owner mode)
   pub catalog-key : (key : List ℕ) (mode : Validation) → NumberAnswers (validateCatalogKey key mode)
   pub timestamp : (seconds : ℤ) (nanos : ℕ) (mode : Validation) → Answers (validateTimestampRange seconds nanos mode)

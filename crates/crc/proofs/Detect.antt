@@ -5,9 +5,9 @@ use Prim.Native.Nat.{ℕ, zero, suc, _+_, _-_, _*_, _/_, _%_, _^_, _≤_, _<_}
 use native.Mathlib.Nat.{suc-inj}
 use native.Mathlib.Omega.{arith}
 use lib.ListN.{length}
-use Rattle.crc.specs.Crc.{_⊕_, ones, polynomial, stepBit, stepBits, stepByte, extend, crc32c}
+use Rattle.crc.specs.Crc.{ones, polynomial, stepBit, stepBits, stepByte, extend, crc32c}
 use Rattle.crc.specs.Inside.{number}
-use Rattle.crc.proofs.Xor.{⊕-comm, ⊕-zero-l, ⊕-self, ⊕-swap, ⊕-shl, ⊕-lt, ⊕-cancel, ⊕-zero-eq}
+use Rattle.crc.proofs.Xor.{_⊕_, ⊕-comm, ⊕-zero-l, ⊕-self, ⊕-swap, ⊕-shl, ⊕-lt, ⊕-cancel, ⊕-zero-eq}
 use Rattle.crc.proofs.Linear.{stepBits-⊕, stepBits-add, stepBits-shifted, extend-number}
 
 -- ---- a register of 32 bits is stepped back in one way

@@ -2,7 +2,7 @@
 use Prim.Native.Nat.{ℕ, zero, suc, _+_, _*_, _/_, _%_, _^_}
 use mathlib.Core.Path.{_≡_, refl}
 use mathlib.Core.List.{[], _∷_}
-use Rattle.crc.specs.Crc.{_⊕_, polynomial, stepBit, stepBits, stepByte, extend, crc32c, zeroed}
+use Rattle.crc.specs.Crc.{polynomial, stepBit, stepBits, stepByte, extend, crc32c, zeroed}
 use Rattle.octets.specs.Number.{littleBytes}
 
 -- the lowest bits of a number, in reverse
@@ -16,7 +16,7 @@ reflected = refl
 
 -- "123456789"
 digits : crc32c (0x31 ∷ 0x32 ∷ 0x33 ∷ 0x34 ∷ 0x35 ∷ 0x36 ∷ 0x37 ∷ 0x38 ∷ 0x39 ∷ []) ≡ 0xE3069283
-unfolding crc32c extend stepByte stepBits stepBit _⊕_
+unfolding crc32c extend stepByte stepBits stepBit
 digits = refl
 
 -- places 1 and 2; an end past the message is its end; an end before the start leaves all

@@ -12,9 +12,9 @@ use lib.Pow.{pow-add, shr-shr, split}
 use lib.Seq.{getD-drop, getD-append-add}
 use Rattle.octets.specs.Bytes.{part}
 use Rattle.octets.proofs.Join.{part-length, part-split}
-use Rattle.crc.specs.Crc.{_⊕_, stepBit, stepBits, extend}
+use Rattle.crc.specs.Crc.{stepBit, stepBits, extend}
 use Rattle.crc.specs.Inside.{lane, round, pastLane, IsLaneWords}
-use Rattle.crc.proofs.Xor.{⊕-comm, ⊕-assoc, ⊕-zero-l, ⊕-zero-r, ⊕-shl, ⊕-shifted, bit-lt}
+use Rattle.crc.proofs.Xor.{_⊕_, ⊕-comm, ⊕-assoc, ⊕-zero-l, ⊕-zero-r, ⊕-shl, ⊕-shifted, bit-lt}
 use Rattle.crc.proofs.Linear.{stepBits-⊕, stepBits-zero, stepBits-shifted, eight-more, extend-append, extend-zeros, extend-⊕}
 use Rattle.crc.proofs.Parts.{extend-some}
 use Rattle.crc.proofs.Table.{follow, follows, count, quick, quick-is}

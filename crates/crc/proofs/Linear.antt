@@ -7,9 +7,9 @@ use native.Mathlib.Omega.{arith}
 use lib.ListN.{length, replicate, length-replicate}
 use lib.Bits.{differ, shifted-half, shifted-even}
 use lib.Pow.{split, pow-pos}
-use Rattle.crc.specs.Crc.{_⊕_, polynomial, stepBit, stepBits, stepByte, extend}
+use Rattle.crc.specs.Crc.{polynomial, stepBit, stepBits, stepByte, extend}
 use Rattle.crc.specs.Inside.{number}
-use Rattle.crc.proofs.Xor.{⊕-comm, ⊕-assoc, ⊕-zero-l, ⊕-zero-r, ⊕-self, ⊕-swap, ⊕-shr, ⊕-low, ⊕-shifted, bit-lt}
+use Rattle.crc.proofs.Xor.{_⊕_, ⊕-comm, ⊕-assoc, ⊕-zero-l, ⊕-zero-r, ⊕-self, ⊕-swap, ⊕-shr, ⊕-low, ⊕-shifted, bit-lt}
 
 -- a bit, times the polynomial
 bit-poly : (x y : ℕ) → x < 2 → y < 2 → differ x y * polynomial ≡ (x * polynomial) ⊕ (y * polynomial)
@@ -32,7 +32,7 @@ stepBits-⊕ zero a b = refl
 stepBits-⊕ (suc n) a b = ap (stepBits n) (stepBit-⊕ a b) ∙ stepBits-⊕ n (stepBit a) (stepBit b)
 
 pub stepBits-zero : (n : ℕ) → stepBits n 0 ≡ 0
-unfolding stepBits stepBit _⊕_
+unfolding stepBits stepBit
 stepBits-zero zero = refl
 stepBits-zero (suc n) = stepBits-zero n
 

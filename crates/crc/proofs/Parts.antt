@@ -6,8 +6,9 @@ use native.Mathlib.Nat.{sub-zero, suc-sub-suc, le-refl, le-of-suc-le-suc, not-su
 use native.Mathlib.Omega.{arith}
 use lib.ListN.{length, take, drop, getD, replicate, take-append-drop, length-drop, drop-of-length-le, replicate-append-replicate}
 use lib.Seq.{drop-cons, drop-drop, take-all}
-use Rattle.crc.specs.Crc.{_⊕_, ones, stepByte, extend, crc32c, zeroed, crc32cWithZero}
+use Rattle.crc.specs.Crc.{ones, stepByte, extend, crc32c, zeroed, crc32cWithZero}
 use Rattle.crc.specs.DataUnit.{unitBytes, tag, dataUnit}
+use Rattle.crc.proofs.Xor.{_⊕_}
 use Rattle.octets.specs.Bytes.{part}
 use Rattle.octets.specs.Number.{littleBytes}
 use Rattle.crc.proofs.Linear.{extend-append}
@@ -178,7 +179,8 @@ with-zero {e} {s} {x} {y} {z} bs start end pe ps px py pz =
     let whole : take (length bs - e) (drop e bs) ≡ drop e bs = take-all (length bs - e) (drop e bs) (simp length-drop (le-refl _)) in
     let q : extend ones (zeroed start end bs) ≡ extend ones (parts s e bs) =
     ap (extend ones) (zeroed-parts start end bs ∙ sym (ap₂ (λ (a b : ℕ). parts a b bs) ps′ pe)) in
-    ap (λ (a : ℕ). a ⊕ ones) (cc (extend-parts ones s e bs))
+    let same : z ≡ extend ones (zeroed start end bs) = cc (extend-parts ones s e bs) in
+    ap (λ (a : ℕ). a ⊕ ones) same
 
 -- ---- a data unit
 
@@ -202,4 +204,6 @@ pub data-unit : {a b c d e f g : ℕ} (uuid : List ℕ) (object unit : ℕ) (val
     → e ≡ extend d (littleBytes 4 (length valid)) → f ≡ extend e valid → g ≡ extend f (replicate (unitBytes - length valid) 0)
     → g ⊕ ones ≡ crc32c (dataUnit uuid object unit valid)
 unfolding crc32c dataUnit
-data-unit uuid object unit valid pa pb pc pd pe pf pg = ap (λ (x : ℕ). x ⊕ ones) (simp extend-append (cc))
+data-unit {a} {b} {c} {d} {e} {f} {g} uuid object unit valid pa pb pc pd pe pf pg =
+    let same : g ≡ extend ones (dataUnit uuid object unit valid) = simp extend-append (cc) in
+    ap (λ (x : ℕ). x ⊕ ones) same

@@ -6,9 +6,9 @@ use native.Mathlib.Nat.{mod-lt, mod-eq-of-lt, div-eq-of-lt}
 use native.Mathlib.Omega.{arith}
 use lib.Bits.{bitOr, or-shifted-r}
 use lib.Pow.{pow-pos, shr-shr, shr-mod, split}
-use Rattle.crc.specs.Crc.{_⊕_, stepBits, stepByte, extend}
+use Rattle.crc.specs.Crc.{stepBits, stepByte, extend}
 use Rattle.crc.specs.Inside.{number}
-use Rattle.crc.proofs.Xor.{⊕-comm, ⊕-zero-l, ⊕-zero-r, ⊕-shr, ⊕-shifted, ⊕-lt}
+use Rattle.crc.proofs.Xor.{_⊕_, ⊕-comm, ⊕-zero-l, ⊕-zero-r, ⊕-shr, ⊕-shifted, ⊕-lt}
 use Rattle.crc.proofs.Linear.{stepBits-low, extend-number, extend-byte}
 
 -- one byte: the high bits are shifted, and the low ones are looked up

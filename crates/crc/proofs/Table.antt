@@ -11,8 +11,9 @@ use lib.Dec.{T, eqb, eqb→eq}
 use lib.ListN.{length, getD, List·getD-append}
 use lib.Pow.{pow-pos}
 use lib.Seq.{getD-append-add}
-use Rattle.crc.specs.Crc.{_⊕_, stepBits}
+use Rattle.crc.specs.Crc.{stepBits}
 use Rattle.crc.specs.Tables.{IsTables}
+use Rattle.crc.proofs.Xor.{_⊕_}
 use Rattle.crc.proofs.Linear.{stepBits-add, stepBits-low, extend-entry}
 
 -- ---- for any list

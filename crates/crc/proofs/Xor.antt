@@ -7,43 +7,38 @@ use lib.Arith.{bin-ind, digits-mod}
 use lib.Bits.{bitXor, differ, xor-step, xor-comm, xor-zero-r, xor-self, xor-shr, xor-mod, xor-lt, xor-shifted, xor-block}
 use lib.Pow.{pow-pos}
 use native.Mathlib.Omega.{arith}
-use Rattle.crc.specs.Crc.{_⊕_}
+
+-- the library's exclusive or as a sign, for these proofs only
+infixl 60 _⊕_
+abbrev pub _⊕_ : ℕ → ℕ → ℕ
+a ⊕ b = bitXor a b
 
 pub ⊕-comm : (a b : ℕ) → a ⊕ b ≡ b ⊕ a
-unfolding _⊕_
 ⊕-comm a b = xor-comm a b
 
 pub ⊕-zero-l : (a : ℕ) → 0 ⊕ a ≡ a
-unfolding _⊕_
 ⊕-zero-l a = refl
 
 pub ⊕-zero-r : (a : ℕ) → a ⊕ 0 ≡ a
-unfolding _⊕_
 ⊕-zero-r a = xor-zero-r a
 
 pub ⊕-self : (a : ℕ) → a ⊕ a ≡ 0
-unfolding _⊕_
 ⊕-self a = xor-self a
 
 pub ⊕-lt : (k a b : ℕ) → a < 2 ^ k → b < 2 ^ k → a ⊕ b < 2 ^ k
-unfolding _⊕_
 ⊕-lt k a b ha hb = xor-lt k a b ha hb
 
 pub ⊕-shr : (a b k : ℕ) → (a ⊕ b) / 2 ^ k ≡ (a / 2 ^ k) ⊕ (b / 2 ^ k)
-unfolding _⊕_
 ⊕-shr a b k = xor-shr a b k
 
 pub ⊕-mod : (a b k : ℕ) → (a ⊕ b) % 2 ^ k ≡ (a % 2 ^ k) ⊕ (b % 2 ^ k)
-unfolding _⊕_
 ⊕-mod a b k = xor-mod a b k
 
 -- a number shifted past another: the two stand side by side
 pub ⊕-shifted : (a k b : ℕ) → b < 2 ^ k → (a * 2 ^ k) ⊕ b ≡ a * 2 ^ k + b
-unfolding _⊕_
 ⊕-shifted a k b h = xor-shifted a k b h
 
 pub ⊕-step : (a b : ℕ) → a ⊕ b ≡ (a / 2 ⊕ b / 2) * 2 + differ (a % 2) (b % 2)
-unfolding _⊕_
 ⊕-step a b = xor-step a b
 
 pub bit-lt : (n : ℕ) → n % 2 < 2
@@ -97,7 +92,6 @@ pub ⊕-zero-eq : (a b : ℕ) → a ⊕ b ≡ 0 → a ≡ b
 
 -- a shift to the left passes through too
 pub ⊕-shl : (a b k : ℕ) → (a ⊕ b) * 2 ^ k ≡ (a * 2 ^ k) ⊕ (b * 2 ^ k)
-unfolding _⊕_
 ⊕-shl a b k =
     sym (add-zero (bitXor a b * 2 ^ k)) ∙ sym (xor-block k a b 0 0 (pow-pos k) (pow-pos k))
     ∙ ap₂ bitXor (add-zero (a * 2 ^ k)) (add-zero (b * 2 ^ k))

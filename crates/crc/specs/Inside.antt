@@ -2,13 +2,14 @@
 use Prim.Native.Nat.{ℕ, _*_, _^_, _<_}
 use mathlib.Core.Path.{_≡_}
 use mathlib.Core.List.{List, [], _∷_}
+use lib.Bits.{bitXor}
 use lib.ListN.{getD}
-use Rattle.crc.specs.Crc.{_⊕_, stepBits}
+use Rattle.crc.specs.Crc.{stepBits}
 
 -- a message as one number, the first byte lowest
 unfoldable pub number : List ℕ → ℕ
 number [] = 0
-number (b ∷ bs) = b ⊕ number bs * 2 ^ 8
+number (b ∷ bs) = bitXor b (number bs * 2 ^ 8)
 
 -- how many bytes a lane has
 abbrev pub lane : ℕ

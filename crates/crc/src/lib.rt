@@ -4,10 +4,11 @@ mod words;
 ghost use mathlib.Core.Path.{_≡_};
 ghost use mathlib.Core.List.{[], _∷_};
 ghost use Prim.Native.Nat.{_+_, _*_, _/_, _%_, _^_, _<_, _≤_};
+ghost use lib.Bits.{bitXor};
 ghost use lib.ListN.{length, drop, replicate};
 ghost use Rattle.octets.specs.Bytes.{part};
 ghost use Rattle.octets.specs.Number.{littleBytes};
-ghost use Rattle.crc.specs.Crc.{_⊕_, stepBits, stepByte, extend, crc32c as crc32cOf, crc32cWithZero};
+ghost use Rattle.crc.specs.Crc.{stepBits, stepByte, extend, crc32c as crc32cOf, crc32cWithZero};
 ghost use Rattle.crc.specs.DataUnit.{unitBytes, dataUnit, dataUnitCrc};
 ghost use Rattle.crc.specs.Inside.{number, round, pastLane, IsLaneWords};
 ghost use Rattle.crc.specs.Tables.{IsTables};
@@ -28,7 +29,7 @@ const ROUND: usize = 3 * LANE;
 // The reason of a string that isn't in the list of reasons.
 const UNLISTED: u16 = 0;
 
-// A constant array is copied to the stack by each call of the function that names it: so one function does, a public call
+// The eight tables. A constant array is copied to the stack by each call of the function that names it: so one function does, a public call
 // makes one copy, and what looks words up is lent that.
 fn tables() -> [u32; 2048]
     ensures { λ r. ⌜ IsTables r ⌝ }
@@ -51,7 +52,7 @@ fn le32(b0: u8, b1: u8, b2: u8, b3: u8) -> u32
     b0 as u32 | (b1 as u32) << 8 | (b2 as u32) << 16 | (b3 as u32) << 24
 }
 
-// One byte.
+// The register `crc` after one byte.
 fn step1(t: &[u32; 2048], crc: u32, b: u8) -> u32
     requires { ⌜ IsTables (now t) ⌝ }
     ensures { λ r. ⌜ r ≡ stepByte crc b ⌝ }
@@ -59,7 +60,7 @@ fn step1(t: &[u32; 2048], crc: u32, b: u8) -> u32
     (crc >> 8) ^ entry(t, 0, crc ^ b as u32)
 }
 
-// Eight bytes. The look-ups that need not wait for the register come first.
+// The register `crc` after eight bytes. The look-ups that need not wait for the register come first.
 fn step8(
     t: &[u32; 2048],
     crc: u32,
@@ -143,7 +144,7 @@ fn lane_words() -> [u32; 32]
 // `r`, with `word` xored in where bit `k` of `crc` is 1.
 fn with_bit(crc: u32, k: usize, word: u32, r: u32) -> u32
     requires { ⌜ k < 32 ⌝ }
-    ensures { λ s. ⌜ s ≡ r ⊕ (crc / 2 ^ k % 2 * word) ⌝ }
+    ensures { λ s. ⌜ s ≡ bitXor r (crc / 2 ^ k % 2 * word) ⌝ }
 {
     if (crc >> k) % 2 == 0 {
         return r;
@@ -154,7 +155,7 @@ fn with_bit(crc: u32, k: usize, word: u32, r: u32) -> u32
 // The register after two lanes: `first` after the first, and `second` after the other from a register of 0.
 fn join(m: &[u32; 32], first: u32, second: u32) -> u32
     requires { ⌜ IsLaneWords (now m) ⌝ }
-    ensures { λ r. ⌜ r ≡ pastLane first ⊕ second ⌝ }
+    ensures { λ r. ⌜ r ≡ bitXor (pastLane first) second ⌝ }
 {
     let mut r = second;
     let mut k = 0;

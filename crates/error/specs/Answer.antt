@@ -31,7 +31,7 @@ abbrev pub checkClass : Check → ℕ
 checkClass Passed = 0
 checkClass (Refused e) = classOf e
 
--- the reason of a check's answer, 0 where it passed
+-- 01, "Return classes": the reason of a check's answer, 0 where it passed
 abbrev pub checkReason : Check → ℕ
 checkReason Passed = 0
 checkReason (Refused e) = reasonOf e
@@ -46,7 +46,7 @@ abbrev pub numberOf : Number → ℕ
 numberOf (Number.Value n) = n
 numberOf (Number.Refused e) = 0
 
--- 01, "Return classes": a record's violation is class 2 in mode Input and class 3 in mode Disk
+-- `violation`: what a check of either mode refuses is class 2 in mode Input, class 3 in mode Disk (01, "Return classes")
 abbrev pub violationOf : Validation → ℕ → Error
 violationOf Input reason = InvalidInput reason
 violationOf Disk reason = Corrupt reason

@@ -17,7 +17,7 @@ infixl 70 _otherwise_
 abbrev pub _otherwise_ : Bool → Error → Demand
 t otherwise e = record { test = t; refusal = e }
 
--- a check that is one demand of a longer chain: it passes, otherwise its own refusal answers
+-- whether a check passed
 abbrev pub isPassed : Check → Bool
 isPassed Passed = true
 isPassed (Refused e) = false
@@ -27,7 +27,7 @@ abbrev pub refusalOf : Check → Error
 refusalOf Passed = UnsupportedFormat
 refusalOf (Refused e) = e
 
--- that a check passes, with its own refusal
+-- a check as one demand of a longer chain: it passes, otherwise its own refusal answers
 abbrev pub passing : Check → Demand
 passing c = record { test = isPassed c; refusal = refusalOf c }
 

@@ -32,7 +32,7 @@ pub enum Number {
     Refused(Error),
 }
 
-// The refusal of a violation in a mode.
+// The refusal of a violation: class 2 in mode Input, class 3 in mode Disk.
 pub fn violation(mode: Validation, reason: u16) -> Error
     ensures { λ r. ⌜ r ≡ violationOf mode reason ⌝ }
 {
@@ -70,7 +70,7 @@ pub fn reason_of(e: Error) -> u16
     }
 }
 
-// The two numbers of a check's answer: 0 and 0 where it passed.
+// The class of a check's answer, 0 where it passed.
 pub fn check_class(c: Check) -> u16
     ensures { λ r. ⌜ r ≡ checkClass c ⌝ }
 {
@@ -80,6 +80,7 @@ pub fn check_class(c: Check) -> u16
     }
 }
 
+// The reason of a check's answer, 0 where it passed.
 pub fn check_reason(c: Check) -> u16
     ensures { λ r. ⌜ r ≡ checkReason c ⌝ }
 {

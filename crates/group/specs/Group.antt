@@ -27,7 +27,7 @@ word g s = u32At g (32 + 4 * s)
 unfoldable pub storedSlots : List ℕ → ℕ
 storedSlots g = through (present g) 256
 
--- the bytes of a stored group
+-- how many bytes a stored group has: the bitmap and the words of those slots
 abbrev pub storedBytes : List ℕ → ℕ
 storedBytes g = 32 + 4 * storedSlots g
 
@@ -38,7 +38,7 @@ slotDemands g s =
     ∷ (not (present g s) || within g (32 + 4 * s) 4) otherwise Corrupt reason.checksumGroupSlot
     ∷ []
 
--- section 6: the word of a present slot, or a hole
+-- `checksum_slot`: the first that fails answers; else the word of a present slot, or that it is a hole
 unfoldable pub checksumSlot : List ℕ → ℕ → Slot
 checksumSlot g s = outcome (slotDemands g s) Slot.Refused (cond (present g s) (Slot.Word (word g s)) Slot.Hole)
 
@@ -66,11 +66,11 @@ holeZero g s = present g s || eqb (word g s) 0
 unfoldable pub holesZero : List ℕ → Bool
 holesZero value = every (holeZero value) (storedSlots value)
 
--- the largest index of a group: a file has 2^63 - 1 bytes at most, a group 256 units of 65,536
+-- `MAX_CHECKSUM_GROUP`: the largest index of a group: a file has 2^63 - 1 bytes at most, a group 256 units of 65,536
 abbrev pub maxChecksumGroup : ℕ
 maxChecksumGroup = (2 ^ 63 - 1) / (256 * 65536)
 
--- `validate_checksum_group` (01, section 5: a key under 17 bytes is refused before the value is looked at)
+-- `validate_checksum_group`, READING-RULES 10: what is asked of a group, in order; a key under 17 bytes is refused before the value is looked at (01, section 5)
 abbrev pub groupDemands : List ℕ → List ℕ → Validation → List Demand
 groupDemands key value mode =
     leb 17 (length key) otherwise violationOf mode reason.invalidCatalogKey
@@ -79,6 +79,6 @@ groupDemands key value mode =
     ∷ holesZero value otherwise violationOf mode reason.holeChecksumIsNonzero
     ∷ []
 
--- section 6: the first that fails answers
+-- 01, "Return classes": the first that fails answers
 unfoldable pub validateChecksumGroup : List ℕ → List ℕ → Validation → Check
 validateChecksumGroup key value mode = demands (groupDemands key value mode)

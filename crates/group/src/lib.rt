@@ -59,7 +59,7 @@ fn stored_slots(group: &[u8]) -> usize
     0
 }
 
-// The stored form of a group: its bitmap and the slots through the last present one.
+// The stored form of a group: its bitmap and the slots through the last present one. Of another length than 1,056 nothing.
 pub fn compact_group(group: &[u8]) -> &[u8]
     ensures { λ r. ⌜ IsPart (group .entry) 0 (compactBytes (now (group .entry))) r ⌝ }
 {
@@ -70,7 +70,7 @@ pub fn compact_group(group: &[u8]) -> &[u8]
     &group[..n]
 }
 
-// A stored group with zeros after it, to the full form.
+// The full form: the bytes lent, at most the first 1,056, and zeros after them.
 pub fn expand_group(value: &[u8]) -> [u8; 1056]
     ensures { λ r. ⌜ r ≡ expandGroup (now (value .entry)) ⌝ }
 {
@@ -139,7 +139,7 @@ fn holes_zero(value: &[u8]) -> bool
     first_holes_zero(value, (value.len() - 32) / 4)
 }
 
-// Check a packed checksum group.
+// Check a packed checksum group; a key under 17 bytes is refused first.
 pub fn validate_checksum_group(key: &[u8], value: &[u8], mode: Validation) -> Check
     ensures { λ r. ⌜ r ≡ validateChecksumGroup (now (key .entry)) (now (value .entry)) mode ⌝ }
 {

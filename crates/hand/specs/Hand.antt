@@ -16,7 +16,7 @@ use Rattle.hand.specs.declared.First.{First}
 use Rattle.hand.specs.declared.Handed.{Handed}
 use Rattle.page.specs.Page.{decodePage}
 
--- of a key and a value the lengths and the checksums
+-- a lookup's numbers, whether a record is given, of its key and its value the lengths and the checksums, and how many records are left after it
 abbrev pub firstNumbers : Bool → ℕ → ℕ → Bool → List ℕ → List ℕ → ℕ → First
 firstNumbers found index remaining given key value left = record {
   found = found;

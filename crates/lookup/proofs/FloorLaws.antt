@@ -8,7 +8,7 @@ use lib.Dec.{ltb}
 use lib.ListN.{length, getD, drop, length-drop, List·getD-append}
 use borrow.Author.Tests.{lt-ltb, le-ltb, ltb-true}
 use Rattle.lookup.specs.Record.{splitRecord, isRecord}
-use Rattle.lookup.specs.Floor.{next, written, unbroken, over, aboveAt, bisect, before, walkFloor, floorAt, scratchOf}
+use Rattle.lookup.specs.Floor.{nextOffset, written, unbroken, over, aboveAt, bisect, before, walkFloor, floorAt, scratchOf}
 use Rattle.lookup.specs.declared.Split.{Split}
 use Rattle.lookup.specs.declared.Split.the-variants.{Record, Broken}
 use Rattle.lookup.specs.declared.Floor.{Floor}
@@ -18,19 +18,19 @@ use Rattle.lookup.proofs.RecordLaws.{split-fits}
 
 module _ (part : List ℕ) where
   -- the next record starts in the part
-  pub next-within : (p : ℕ) → p ≤ length part → next part p ≤ length part
+  pub next-within : (p : ℕ) → p ≤ length part → nextOffset part p ≤ length part
   next-within p l = go (splitRecord (drop p part)) refl
     where
-      go : (r : Split) → splitRecord (drop p part) ≡ r → next part p ≤ length part
+      go : (r : Split) → splitRecord (drop p part) ≡ r → nextOffset part p ≤ length part
       go (Record k v) e = rw e (omega (arith, split-fits (drop p part) k v e, length-drop p part))
       go Broken e = rw e (omega arith)
 
   pub written-length : (n p : ℕ) → unbroken part n p ≡ true → length (written part n p) ≡ n
   unfolding written unbroken
   written-length zero p u = refl
-  written-length (suc n) p u = go (isRecord (splitRecord (drop p part))) (written-length n (next part p)) u
+  written-length (suc n) p u = go (isRecord (splitRecord (drop p part))) (written-length n (nextOffset part p)) u
     where
-      go : (b : Bool) → (unbroken part n (next part p) ≡ true → length (written part n (next part p)) ≡ n) → (b && unbroken part n (next part p)) ≡ true → suc (length (cond b (written part n (next part p)) [])) ≡ suc n
+      go : (b : Bool) → (unbroken part n (nextOffset part p) ≡ true → length (written part n (nextOffset part p)) ≡ n) → (b && unbroken part n (nextOffset part p)) ≡ true → suc (length (cond b (written part n (nextOffset part p)) [])) ≡ suc n
       go true h e = ap suc (h e)
       go false h e = let z : _≡_ {A = ℕ} 0 1 = cc in absurd (omega arith)
 
@@ -38,10 +38,10 @@ module _ (part : List ℕ) where
   pub written-whole : (n p k : ℕ) → unbroken part n p ≡ true → k < n → isRecord (splitRecord (drop (getD (written part n p) k 0) part)) ≡ true
   unfolding written unbroken
   written-whole zero p k u l = absurd (omega arith)
-  written-whole (suc n) p zero u l = and-left (isRecord (splitRecord (drop p part))) (unbroken part n (next part p)) u
+  written-whole (suc n) p zero u l = and-left (isRecord (splitRecord (drop p part))) (unbroken part n (nextOffset part p)) u
   written-whole (suc n) p (suc k) u l =
-      rw (and-left (isRecord (splitRecord (drop p part))) (unbroken part n (next part p)) u)
-      (written-whole n (next part p) k (and-right (isRecord (splitRecord (drop p part))) (unbroken part n (next part p)) u) (omega arith))
+      rw (and-left (isRecord (splitRecord (drop p part))) (unbroken part n (nextOffset part p)) u)
+      (written-whole n (nextOffset part p) k (and-right (isRecord (splitRecord (drop p part))) (unbroken part n (nextOffset part p)) u) (omega arith))
 
 module _ (part key o q : List ℕ) (n : ℕ) (same : (k : ℕ) → k < n → getD o k 0 ≡ getD q k 0) where
   -- a bisection reads the offsets below its end alone
@@ -129,12 +129,12 @@ pub walk-index : (part key : List ℕ) (m n p j : ℕ) (found : Floor) → ((i o
 unfolding walkFloor
 walk-index part key m zero p j found f l i o e = f i o e
 walk-index part key m (suc n) p j found f l i o e =
-    go (aboveAt part key p) (walk-index part key m n (next part p) (j + 1) (At j p) here (omega arith) i o) e
+    go (aboveAt part key p) (walk-index part key m n (nextOffset part p) (j + 1) (At j p) here (omega arith) i o) e
   where
     here : (i o : ℕ) → At j p ≡ At i o → i < m
     here i o e = let g : j ≡ i = cc in omega arith
 
-    go : (b : Bool) → (walkFloor part key n (next part p) (j + 1) (At j p) ≡ At i o → i < m) → cond b found (walkFloor part key n (next part p) (j + 1) (At j p)) ≡ At i o → i < m
+    go : (b : Bool) → (walkFloor part key n (nextOffset part p) (j + 1) (At j p) ≡ At i o → i < m) → cond b found (walkFloor part key n (nextOffset part p) (j + 1) (At j p)) ≡ At i o → i < m
     go true h e = f i o e
     go false h e = h e
 

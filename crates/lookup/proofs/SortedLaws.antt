@@ -10,7 +10,7 @@ use lib.Dec.{ltb}
 use lib.ListN.{length, getD, drop}
 use borrow.Author.Tests.{lt-ltb, le-ltb, ltb-true, ltb-false}
 use Rattle.octets.specs.Order.{order, isGreater}
-use Rattle.lookup.specs.Floor.{next, written, unbroken, aboveAt, bisect, before, walkFloor, floorAt}
+use Rattle.lookup.specs.Floor.{nextOffset, written, unbroken, aboveAt, bisect, before, walkFloor, floorAt}
 use Rattle.lookup.specs.Sorted.{offsetOf, keyAt, Sorted, keyAbove, IsFloor, FloorIsTheLast, WalkingIsHalving}
 use Rattle.lookup.specs.declared.Look
 use Rattle.lookup.specs.declared.Floor.{Floor}
@@ -89,7 +89,7 @@ module _ (part key : List ℕ) (count : ℕ) (sorted : Sorted part count) where
         go false t = λ j m. sym (up-is j m) ∙ h .from j (omega (arith, ltb-false 0 b t)) m
 
   -- ---- the offsets that are written
-  offset-next : (j : ℕ) → next part (offsetOf part j) ≡ offsetOf part (j + 1)
+  offset-next : (j : ℕ) → nextOffset part (offsetOf part j) ≡ offsetOf part (j + 1)
   unfolding offsetOf
   offset-next j = rw (add-one j)
 
@@ -123,7 +123,7 @@ module _ (part key : List ℕ) (count : ℕ) (sorted : Sorted part count) where
     where
       go : (b : Bool) → up j ≡ b
           → (((k : ℕ) → k < j + 1 → up k ≡ false) → (b : ℕ) × Boundary up count b × (walkFloor part key n (offsetOf part (j + 1)) (j + 1) (last (j + 1)) ≡ last b))
-          → (c : ℕ) × Boundary up count c × (cond b (last j) (walkFloor part key n (next part (offsetOf part j)) (j + 1) (At j (offsetOf part j))) ≡ last c)
+          → (c : ℕ) × Boundary up count c × (cond b (last j) (walkFloor part key n (nextOffset part (offsetOf part j)) (j + 1) (At j (offsetOf part j))) ≡ last c)
       go true t more = (j, record { within = omega arith; below = lo; from = λ k p q. up-from j k p q t }, refl)
       go false t more =
           let r = more (λ k p. up-below k j (omega arith) (omega arith) t) in

@@ -32,6 +32,6 @@ cases entries =
     ∷ isAt 1 (floorAt twoRecords 2 (100 ∷ 97 ∷ []) entries)
     ∷ []
 
--- by walking and by halving
+-- they hold by walking, with no scratch, and by halving, with a scratch of 2 entries
 abbrev pub CasesHold : Type 0
 CasesHold = (allTrue (cases 0) ≡ true) × (allTrue (cases 2) ≡ true)

@@ -13,18 +13,18 @@ use Rattle.lookup.specs.declared.Floor.{Floor}
 use Rattle.lookup.specs.declared.Floor.the-variants.{At, Nothing}
 
 -- the offset of the record after the one at p
-abbrev pub next : List ℕ → ℕ → ℕ
-next part p = p + sizeOf (splitRecord (drop p part))
+abbrev pub nextOffset : List ℕ → ℕ → ℕ
+nextOffset part p = p + sizeOf (splitRecord (drop p part))
 
 -- what is written into the scratch for n records from the one at p on: their offsets; a broken record's is the last written
 unfoldable pub written : List ℕ → ℕ → ℕ → List ℕ
 written part zero p = []
-written part (suc n) p = p ∷ cond (isRecord (splitRecord (drop p part))) (written part n (next part p)) []
+written part (suc n) p = p ∷ cond (isRecord (splitRecord (drop p part))) (written part n (nextOffset part p)) []
 
 -- none of the n records from the one at p on is broken
 unfoldable pub unbroken : List ℕ → ℕ → ℕ → Bool
 unbroken part zero p = true
-unbroken part (suc n) p = isRecord (splitRecord (drop p part)) && unbroken part n (next part p)
+unbroken part (suc n) p = isRecord (splitRecord (drop p part)) && unbroken part n (nextOffset part p)
 
 -- the scratch once its first entries are ws; the rest is untouched
 abbrev pub over : List ℕ → List ℕ → List ℕ
@@ -42,14 +42,14 @@ bisect part key offs (suc steps) low high =
     (cond (aboveAt part key (getD offs ((low + high) / 2) 0)) (bisect part key offs steps low ((low + high) / 2)) (bisect part key offs steps ((low + high) / 2 + 1) high))
     low
 
--- the record before an index
+-- the record before an index, none before the first
 abbrev pub before : List ℕ → ℕ → Floor
 before offs i = cond (ltb 0 i) (At (i - 1) (getD offs (i - 1) 0)) Nothing
 
 -- the walk from the front: n records are left, the next is record i at p, and `found` is the answer so far. A broken record stops it as one above the sought key does
 unfoldable pub walkFloor : List ℕ → List ℕ → ℕ → ℕ → ℕ → Floor → Floor
 walkFloor part key zero p i found = found
-walkFloor part key (suc n) p i found = cond (aboveAt part key p) found (walkFloor part key n (next part p) (i + 1) (At i p))
+walkFloor part key (suc n) p i found = cond (aboveAt part key p) found (walkFloor part key n (nextOffset part p) (i + 1) (At i p))
 
 -- the answer, lent a scratch of so many entries. A part above 65,535 bytes gives none; a scratch shorter than the count, the walk; records that break in the filling, none
 unfoldable pub floorAt : List ℕ → ℕ → List ℕ → ℕ → Floor
@@ -75,11 +75,11 @@ floorAnswer part count key entries = answerOf (length part) count (floorAt part 
 abbrev pub noStep : ℕ → Step
 noStep n = record { found = false; «key_start» = 0; «key_end» = 0; «value_end» = 0; remaining = n }
 
--- over a record, or none over a broken one
+-- the step over a record; there is none over a broken one
 abbrev pub stepSplit : ℕ → Split → Step
 stepSplit n (Record k v) = record { found = true; «key_start» = 4; «key_end» = 4 + k; «value_end» = 4 + k + v; remaining = n - 1 }
 stepSplit n Broken = noStep n
 
--- section 5: the next record of n that are left: where its key starts and ends, where its value ends, and how many are left after it
+-- `next` of `Records`: the first of n records that are left: where its key starts and ends, where its value ends, and how many are left after it; there is none where n is 0 or it is broken
 unfoldable pub nextRecord : List ℕ → ℕ → Step
 nextRecord part n = cond (ltb 0 n) (stepSplit n (splitRecord part)) (noStep n)

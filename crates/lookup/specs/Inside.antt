@@ -7,11 +7,11 @@ use Rattle.lookup.specs.declared.Split.{Split}
 use Rattle.lookup.specs.declared.Split.the-variants.{Record, Broken}
 use Rattle.lookup.specs.declared.End.{End}
 
--- where the record at a place of s ends
+-- where the record that was read at a place ends, or that it is broken
 abbrev pub endSplit : ℕ → Split → End
 endSplit at (Record k v) = End.At (at + (4 + k + v))
 endSplit at Broken = End.Broken
 
--- by the record that stands there
+-- the same of the record that stands at a place of s
 unfoldable pub recordEnd : List ℕ → ℕ → End
 recordEnd s at = endSplit at (splitRecord (drop at s))

@@ -20,7 +20,7 @@ keyLen s = u16At s 0
 abbrev pub valueLen : List ℕ → ℕ
 valueLen s = u16At s 2
 
--- how many bytes it takes
+-- how many bytes it takes, the four of the two lengths among them
 abbrev pub recordLen : List ℕ → ℕ
 recordLen s = 4 + keyLen s + valueLen s
 
@@ -41,7 +41,7 @@ abbrev pub isRecord : Split → Bool
 isRecord (Record k v) = true
 isRecord Broken = false
 
--- how many bytes a whole record takes
+-- how many bytes a whole record takes, 0 for a broken one
 abbrev pub sizeOf : Split → ℕ
 sizeOf (Record k v) = 4 + k + v
 sizeOf Broken = 0

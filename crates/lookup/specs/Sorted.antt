@@ -7,14 +7,14 @@ use lib.ListN.{length, drop}
 use Rattle.octets.specs.Order.{order, isGreater}
 use Rattle.octets.specs.declared.Order.the-variants.{Less}
 use Rattle.lookup.specs.Record.{splitRecord, isRecord, keyOf}
-use Rattle.lookup.specs.Floor.{next, floorAt}
+use Rattle.lookup.specs.Floor.{nextOffset, floorAt}
 use Rattle.lookup.specs.declared.Floor.{Floor}
 use Rattle.lookup.specs.declared.Floor.the-variants.{At, Nothing}
 
 -- where record k starts
 unfoldable pub offsetOf : List ℕ → ℕ → ℕ
 offsetOf part zero = 0
-offsetOf part (suc k) = next part (offsetOf part k)
+offsetOf part (suc k) = nextOffset part (offsetOf part k)
 
 -- its key
 abbrev pub keyAt : List ℕ → ℕ → List ℕ
@@ -34,7 +34,7 @@ abbrev pub IsFloor : List ℕ → ℕ → List ℕ → Floor → Type 0
 IsFloor part count key (At i o) = (i < count) × (o ≡ offsetOf part i) × (keyAbove part key i ≡ false) × ((j : ℕ) → i < j → j < count → keyAbove part key j ≡ true)
 IsFloor part count key Nothing = (j : ℕ) → j < count → keyAbove part key j ≡ true
 
--- on such a part every lookup answers so
+-- on such a part, of at most 65,535 bytes, every lookup answers so
 abbrev pub FloorIsTheLast : Type 0
 FloorIsTheLast = (part key : List ℕ) (count : ℕ) → Sorted part count → (entries : ℕ) → length part ≤ 65535 → IsFloor part count key (floorAt part count key entries)
 

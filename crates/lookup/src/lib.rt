@@ -46,7 +46,7 @@ pub fn split_record(part: &[u8]) -> Split
     Split::Record { key_len, value_len }
 }
 
-// The record at the start of a part, beside a sought key.
+// The record at the start of a part, beside a sought key; a broken one counts as above it.
 pub fn look_at(part: &[u8], key: &[u8]) -> Look
     ensures { λ r. ⌜ r ≡ lookAt (now (part .entry)) (now (key .entry)) ⌝ }
 {
@@ -63,7 +63,7 @@ pub fn look_at(part: &[u8], key: &[u8]) -> Look
     }
 }
 
-// Where the record at a place ends.
+// Where the record at a place ends, or that it is broken.
 fn record_end(part: &[u8], at: usize) -> End
     requires { ⌜ (at ≤ length (now part)) × (length (now part) ≤ 65535) ⌝ }
     ensures { λ r. ⌜ r ≡ recordEnd (now (part .entry)) at ⌝ }
@@ -161,7 +161,7 @@ fn bisect_records(part: &[u8], count: usize, key: &[u8], offsets: &[u16]) -> Flo
     }
 }
 
-// The floor lookup. The scratch is written where it has an entry for each record.
+// The floor lookup. The scratch is written where it has an entry for each record and the part has at most 65,535 bytes.
 pub fn floor_at(part: &[u8], count: usize, key: &[u8], scratch: &mut [u16]) -> Floor
     ensures { λ r. ⌜ (r ≡ floorAt (now (part .entry)) count (now (key .entry)) (length (now (scratch .entry)))) × (now (scratch .exit) ≡ scratchOf (now (part .entry)) count (now (scratch .entry))) ⌝ }
 {

@@ -34,7 +34,7 @@ fn wide(byte: u8) -> u16
     byte as u16
 }
 
-// The little-endian numbers of 2, 4 and 8 bytes at a place: each is made of the two of half its width.
+// The little-endian number of the 2 bytes at a place.
 fn le16(bytes: &[u8], at: usize) -> u16
     requires { ⌜ at + 2 ≤ length (now bytes) ⌝ }
     ensures { λ r. ⌜ r ≡ u16At (now (bytes .entry)) at ⌝ }
@@ -42,6 +42,7 @@ fn le16(bytes: &[u8], at: usize) -> u16
     wide(bytes[at]) + 256 * wide(bytes[at + 1])
 }
 
+// The same of 4 bytes, made of the two of half its width.
 fn le32(bytes: &[u8], at: usize) -> u32
     requires { ⌜ at + 4 ≤ length (now bytes) ⌝ }
     ensures { λ r. ⌜ r ≡ u32At (now (bytes .entry)) at ⌝ }
@@ -49,6 +50,7 @@ fn le32(bytes: &[u8], at: usize) -> u32
     le16(bytes, at) as u32 + 65536 * (le16(bytes, at + 2) as u32)
 }
 
+// The same of 8 bytes.
 fn le64(bytes: &[u8], at: usize) -> u64
     requires { ⌜ at + 8 ≤ length (now bytes) ⌝ }
     ensures { λ r. ⌜ r ≡ u64At (now (bytes .entry)) at ⌝ }
@@ -57,16 +59,16 @@ fn le64(bytes: &[u8], at: usize) -> u64
 }
 
 // Whether a field of so many bytes at an offset lies within so many bytes.
-fn lies_within(length: usize, offset: usize, width: usize) -> bool
-    ensures { λ r. ⌜ r ≡ leb (offset + width) length ⌝ }
+fn lies_within(len: usize, offset: usize, width: usize) -> bool
+    ensures { λ r. ⌜ r ≡ leb (offset + width) len ⌝ }
 {
-    if length < width {
+    if len < width {
         return false;
     }
-    offset <= length - width
+    offset <= len - width
 }
 
-// The number at an offset, or corruption with the caller's reason.
+// The u16 at an offset, or corruption with the caller's reason.
 pub fn read_u16_le(bytes: &[u8], offset: usize, reason: u16) -> Read16
     ensures { λ r. ⌜ number16 r ≡ readOf (now (bytes .entry)) offset 2 reason ⌝ }
 {
@@ -76,6 +78,7 @@ pub fn read_u16_le(bytes: &[u8], offset: usize, reason: u16) -> Read16
     Read16::Value(le16(bytes, offset))
 }
 
+// The same of the u32.
 pub fn read_u32_le(bytes: &[u8], offset: usize, reason: u16) -> Read32
     ensures { λ r. ⌜ number32 r ≡ readOf (now (bytes .entry)) offset 4 reason ⌝ }
 {
@@ -85,6 +88,7 @@ pub fn read_u32_le(bytes: &[u8], offset: usize, reason: u16) -> Read32
     Read32::Value(le32(bytes, offset))
 }
 
+// The same of the u64.
 pub fn read_u64_le(bytes: &[u8], offset: usize, reason: u16) -> Number
     ensures { λ r. ⌜ r ≡ readOf (now (bytes .entry)) offset 8 reason ⌝ }
 {
@@ -117,7 +121,7 @@ fn byte_after(bytes: &[u8], at: usize, i: usize) -> u8
     0
 }
 
-// The number of at most 8 bytes at a place, of which some may lie past the end.
+// The little-endian number of at most 8 bytes at a place; those past the end count as 0.
 fn tail_number(bytes: &[u8], at: usize, width: usize) -> u64
     requires { ⌜ width ≤ 8 ⌝ }
     ensures { λ r. ⌜ (r ≡ field (now (bytes .entry)) at width) × (r < 256 ^ width) ⌝ }
@@ -131,7 +135,7 @@ fn tail_number(bytes: &[u8], at: usize, width: usize) -> u64
     number
 }
 
-// The number at an offset; bytes past the end count as 0.
+// The u16 at a place; bytes past the end count as 0.
 pub fn u16_at(bytes: &[u8], at: usize) -> u16
     ensures { λ r. ⌜ r ≡ u16At (now (bytes .entry)) at ⌝ }
 {
@@ -141,6 +145,7 @@ pub fn u16_at(bytes: &[u8], at: usize) -> u16
     tail_number(bytes, at, 2) as u16
 }
 
+// The same of the u32.
 pub fn u32_at(bytes: &[u8], at: usize) -> u32
     ensures { λ r. ⌜ r ≡ u32At (now (bytes .entry)) at ⌝ }
 {
@@ -150,6 +155,7 @@ pub fn u32_at(bytes: &[u8], at: usize) -> u32
     tail_number(bytes, at, 4) as u32
 }
 
+// The same of the u64.
 pub fn u64_at(bytes: &[u8], at: usize) -> u64
     ensures { λ r. ⌜ r ≡ u64At (now (bytes .entry)) at ⌝ }
 {
@@ -159,7 +165,7 @@ pub fn u64_at(bytes: &[u8], at: usize) -> u64
     tail_number(bytes, at, 8)
 }
 
-// The big-endian numbers of 2, 4 and 8 bytes at a place.
+// The big-endian number of the 2 bytes at a place.
 fn be16(bytes: &[u8], at: usize) -> u16
     requires { ⌜ at + 2 ≤ length (now bytes) ⌝ }
     ensures { λ r. ⌜ r ≡ big (part (now (bytes .entry)) at 2) ⌝ }
@@ -167,6 +173,7 @@ fn be16(bytes: &[u8], at: usize) -> u16
     wide(bytes[at + 1]) + 256 * wide(bytes[at])
 }
 
+// The same of 4 bytes.
 fn be32(bytes: &[u8], at: usize) -> u32
     requires { ⌜ at + 4 ≤ length (now bytes) ⌝ }
     ensures { λ r. ⌜ r ≡ big (part (now (bytes .entry)) at 4) ⌝ }
@@ -174,6 +181,7 @@ fn be32(bytes: &[u8], at: usize) -> u32
     be16(bytes, at + 2) as u32 + 65536 * (be16(bytes, at) as u32)
 }
 
+// The same of 8 bytes.
 fn be64(bytes: &[u8], at: usize) -> u64
     requires { ⌜ at + 8 ≤ length (now bytes) ⌝ }
     ensures { λ r. ⌜ r ≡ big (part (now (bytes .entry)) at 8) ⌝ }
@@ -289,10 +297,11 @@ pub fn lesser(a: usize, b: usize) -> usize
     if a < b { a } else { b }
 }
 
-fn is_greater(order: Order) -> bool
-    ensures { λ r. ⌜ r ≡ isGreater order ⌝ }
+// Whether the first of two compared strings is above the second.
+fn is_greater(compared: Order) -> bool
+    ensures { λ r. ⌜ r ≡ isGreater compared ⌝ }
 {
-    match order {
+    match compared {
         Order::Less => false,
         Order::Equal => false,
         Order::Greater => true,
@@ -354,7 +363,7 @@ pub fn put(out: &mut [u8], at: usize, bytes: &[u8]) -> usize
     place
 }
 
-// The first bytes of a part in an array, zeros after them.
+// The first 16 bytes of a part in an array, zeros after them.
 pub fn copy16(bytes: &[u8]) -> [u8; 16]
     ensures { λ r. ⌜ r ≡ paddedTo 16 (now (bytes .entry)) ⌝ }
 {
@@ -363,6 +372,7 @@ pub fn copy16(bytes: &[u8]) -> [u8; 16]
     out
 }
 
+// The same of 255 bytes.
 pub fn copy255(bytes: &[u8]) -> [u8; 255]
     ensures { λ r. ⌜ r ≡ paddedTo 255 (now (bytes .entry)) ⌝ }
 {

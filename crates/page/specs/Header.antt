@@ -19,7 +19,7 @@ use Rattle.page.specs.declared.Expected.{Expected}
 
 -- ---- the fields
 
--- "CFSXPAGE"
+-- section 4: `CFSXPAGE`
 abbrev pub magic : List ℕ
 magic = 0x43 ∷ 0x46 ∷ 0x53 ∷ 0x58 ∷ 0x50 ∷ 0x41 ∷ 0x47 ∷ 0x45 ∷ []
 
@@ -61,12 +61,12 @@ total page = u64At page 56
 unfoldable pub expectedOf : ℕ → Expected
 expectedOf n = cond (eqb n 255) Expected.Any (Expected.Exactly n)
 
--- a level that is expected is at most 7
+-- `validate_page_header`, READING-RULES 7.2: a level that is expected, if any, is at most 7
 unfoldable pub isLevel : Expected → Bool
 isLevel Expected.Any = true
 isLevel (Expected.Exactly n) = leb n 7
 
--- section 4: what is asked of the caller's part, in order
+-- `validate_page_header`, READING-RULES 7.2: what is asked of the caller's part, in order
 abbrev pub callerDemands : TreeRef → List ℕ → TreeKind → ℕ → Expected → ℕ → List ℕ → List Demand
 callerDemands reference uuid kind parent expected blocks page =
     eqb (length page) 4096 otherwise Corrupt reason.pageLength
@@ -77,17 +77,17 @@ callerDemands reference uuid kind parent expected blocks page =
     ∷ isLevel expected otherwise InvalidInput reason.invalidExpectedPageLevel
     ∷ []
 
--- section 4: the first that fails answers
+-- 01, "Return classes": the first that fails answers
 unfoldable pub checkCaller : TreeRef → List ℕ → TreeKind → ℕ → Expected → ℕ → List ℕ → Check
 checkCaller reference uuid kind parent expected blocks page = demands (callerDemands reference uuid kind parent expected blocks page)
 
 -- ---- the stored part
 
--- checksum u32 at 64, taken with its own four bytes as zero
+-- section 4: checksum u32 at 64, taken with its own four bytes as zero (section 1)
 unfoldable pub checksumFits : List ℕ → Bool
 checksumFits page = eqb (crc32cWithZero page 64 68) (u32At page 64)
 
--- the checksum, the magic, revision u16 at 8, flags u16 at 10
+-- section 4: the checksum, the magic, revision u16 at 8, flags u16 at 10
 abbrev pub formatDemands : List ℕ → List Demand
 formatDemands page =
     checksumFits page otherwise Corrupt reason.pageChecksum
@@ -96,7 +96,7 @@ formatDemands page =
     ∷ eqb (u16At page 10) 0 otherwise UnsupportedFormat
     ∷ []
 
--- section 4: the first that fails answers
+-- 01, "Return classes": the first that fails answers
 unfoldable pub checkFormat : List ℕ → Check
 checkFormat page = demands (formatDemands page)
 
@@ -108,25 +108,25 @@ isPageKind page = eqb (pageKind page) 1 || eqb (pageKind page) 2
 unfoldable pub isTreeKind : List ℕ → Bool
 isTreeKind page = isTreeKindValue (treeKind page)
 
--- a leaf's level is 0, an internal page's 1..7
+-- section 4: a leaf's level is 0, an internal page's 1..7
 unfoldable pub levelFits : List ℕ → Bool
 levelFits page =
     (not (eqb (pageKind page) 1) || eqb (level page) 0) && (not (eqb (pageKind page) 2) || (leb 1 (level page) && leb (level page) 7))
 
--- section 4: the level is the expected one, if one is given
+-- `validate_page_header`, READING-RULES 7.2: the level is the expected one, if one is given
 unfoldable pub isExpected : Expected → List ℕ → Bool
 isExpected Expected.Any page = true
 isExpected (Expected.Exactly n) page = eqb n (level page)
 
--- zeros at 15, 36..39, 68..79
+-- section 4: zeros at 15, 36..39, 68..79
 unfoldable pub reservedZero : List ℕ → Bool
 reservedZero page = eqb (byteAt page 15) 0 && (allZero (part page 36 4) && allZero (part page 68 12))
 
--- the tree kind is the one that is asked for
+-- `validate_page_header`, READING-RULES 7.2: the tree kind is the one that is asked for
 unfoldable pub isOfTree : TreeKind → List ℕ → Bool
 isOfTree kind page = eqb (treeKind page) (treeKindValue kind)
 
--- section 4: what is asked of kinds, level and reserved bytes, in order
+-- `validate_page_header`, READING-RULES 7.2: what is asked of kinds, level and reserved bytes, in order
 abbrev pub kindDemands : TreeKind → Expected → List ℕ → List Demand
 kindDemands kind expected page =
     isPageKind page otherwise Corrupt reason.pageKind
@@ -137,27 +137,27 @@ kindDemands kind expected page =
     ∷ reservedZero page otherwise Corrupt reason.pageReservedBytes
     ∷ []
 
--- section 4: the first that fails answers
+-- 01, "Return classes": the first that fails answers
 unfoldable pub checkKind : TreeKind → Expected → List ℕ → Check
 checkKind kind expected page = demands (kindDemands kind expected page)
 
--- the page is the one that the reference names, and not newer than its parent
+-- `validate_page_header`, READING-RULES 7.2: the page is the one that the reference names, and not newer than its parent
 unfoldable pub isReferred : TreeRef → ℕ → List ℕ → Bool
 isReferred reference parent page =
     eqb (selfBlock page) (reference .block) && (eqb (generation page) (reference .generation) && leb (generation page) parent)
 
--- UUID at 40
+-- section 4: UUID at 40, the one that is asked for
 unfoldable pub hasUuid : List ℕ → List ℕ → Bool
 hasUuid uuid page = sameBytes (part page 40 16) uuid
 
--- outside the catalog the total is 0
+-- `validate_page_header`, READING-RULES 7.2: outside the catalog the total is 0
 unfoldable pub totalAllowed : TreeKind → List ℕ → Bool
 totalAllowed TreeKind.Catalog page = true
 totalAllowed TreeKind.Allocation page = eqb (total page) 0
 totalAllowed TreeKind.Cleanup page = eqb (total page) 0
 totalAllowed TreeKind.Workspace page = eqb (total page) 0
 
--- section 4: what is asked of the page's identity and numbers, in order
+-- `validate_page_header`, READING-RULES 7.2: what is asked of the page's identity and numbers, in order
 abbrev pub identityDemands : TreeRef → List ℕ → TreeKind → ℕ → ℕ → List ℕ → List Demand
 identityDemands reference uuid kind parent blocks page =
     isReferred reference parent page otherwise Corrupt reason.pageIdentityOrGeneration
@@ -167,13 +167,13 @@ identityDemands reference uuid kind parent blocks page =
     ∷ totalAllowed kind page otherwise Corrupt reason.nonCatalogDataBlockTotal
     ∷ []
 
--- section 4: the first that fails answers
+-- 01, "Return classes": the first that fails answers
 unfoldable pub checkIdentity : TreeRef → List ℕ → TreeKind → ℕ → ℕ → List ℕ → Check
 checkIdentity reference uuid kind parent blocks page = demands (identityDemands reference uuid kind parent blocks page)
 
 -- ---- the header
 
--- section 4: all checks of the header, group by group
+-- `validate_page_header`, READING-RULES 7.2: all checks of the header, group by group, in order
 abbrev pub headerDemands : TreeRef → List ℕ → TreeKind → ℕ → Expected → ℕ → List ℕ → List Demand
 headerDemands reference uuid kind parent expected blocks page =
     passing (checkCaller reference uuid kind parent expected blocks page)
@@ -182,6 +182,6 @@ headerDemands reference uuid kind parent expected blocks page =
     ∷ passing (checkIdentity reference uuid kind parent blocks page)
     ∷ []
 
--- section 4: the first that fails answers
+-- 01, "Return classes": the first that fails answers
 unfoldable pub validatePageHeader : TreeRef → List ℕ → TreeKind → ℕ → Expected → ℕ → List ℕ → Check
 validatePageHeader reference uuid kind parent expected blocks page = demands (headerDemands reference uuid kind parent expected blocks page)

@@ -31,23 +31,23 @@ context kind blocks page = record {
   mode = Disk;
 }
 
--- the walk: lent the block from byte 80 on, it answers a leaf's total
+-- the walk: lent the block from byte 80 on, it answers a leaf's total, 0 for an internal page
 unfoldable pub validatePageRecords : TreeKind → ℕ → List ℕ → Number
 validatePageRecords kind blocks page = validateRecords (drop 80 page) (payloadLength page) (count page) (context kind blocks page)
 
--- a leaf's total is what the walk found
+-- section 4: a leaf's total is what the walk found
 unfoldable pub totalFits : List ℕ → ℕ → Bool
 totalFits page found = not (eqb (pageKind page) 1) || eqb (total page) found
 
--- behind the payload stand zeros
+-- section 4: behind the payload stand zeros
 unfoldable pub paddingZero : List ℕ → Bool
 paddingZero page = allZero (drop (80 + payloadLength page) page)
 
--- an internal page has two children
+-- section 4: an internal page has two children at least
 unfoldable pub enoughChildren : List ℕ → Bool
 enoughChildren page = not (eqb (pageKind page) 2) || leb 2 (count page)
 
--- the records, and what comes after them
+-- section 4: last, records, leaf total, zero padding, two children in an internal page
 abbrev pub contentDemands : TreeKind → ℕ → List ℕ → List Demand
 contentDemands kind blocks page =
     passing (numberCheck (validatePageRecords kind blocks page))
@@ -56,7 +56,7 @@ contentDemands kind blocks page =
     ∷ enoughChildren page otherwise Corrupt reason.internalPageHasTooFewChildren
     ∷ []
 
--- section 4: the first that fails answers
+-- 01, "Return classes": the first that fails answers
 unfoldable pub checkContent : TreeKind → ℕ → List ℕ → Check
 checkContent kind blocks page = demands (contentDemands kind blocks page)
 
@@ -67,13 +67,13 @@ pageDemands reference uuid kind parent expected blocks page =
     ∷ passing (checkContent kind blocks page)
     ∷ []
 
--- section 4: the first that fails answers
+-- 01, "Return classes": the first that fails answers
 unfoldable pub checkPage : TreeRef → List ℕ → TreeKind → ℕ → Expected → ℕ → List ℕ → Check
 checkPage reference uuid kind parent expected blocks page = demands (pageDemands reference uuid kind parent expected blocks page)
 
 -- ---- the answer in numbers
 
--- beside a refusal each number is 0
+-- 01, "Return classes": beside a refusal each number is 0
 abbrev pub refusedPage : Error → Page
 refusedPage e = record { class = classOf e; reason = reasonOf e; level = 0; «data_blocks» = 0; count = 0; start = 0; end = 0 }
 

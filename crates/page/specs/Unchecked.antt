@@ -1,4 +1,4 @@
--- Views of pages that are not validated (01, section 4): `verified_page_view` checks only identity, `draft_page_view` only that the bytes are there.
+-- Views of pages that are not validated: `verified_page_view` checks only identity (01, section 4), `draft_page_view` nothing; both, that the bytes are there.
 use Prim.Native.Nat.{ℕ, _+_}
 use mathlib.Core.Bool.{Bool, _&&_}
 use mathlib.Core.List.{List, [], _∷_}
@@ -13,13 +13,13 @@ use Rattle.page.specs.declared.Page.{Page}
 use Rattle.page.specs.Header.{level, count, payloadLength, isReferred, isOfTree, isExpected, hasUuid}
 use Rattle.page.specs.Page.{refusedPage, acceptedPage}
 
--- the page is the one that is asked for
+-- `verified_page_view`, READING-RULES 7.3: the page is the one that is asked for
 unfoldable pub isAskedFor : TreeRef → List ℕ → TreeKind → ℕ → Expected → List ℕ → Bool
 isAskedFor reference uuid kind parent expected page =
     isReferred reference parent page
     && (isOfTree kind page && (isExpected expected page && hasUuid uuid page))
 
--- the Rust's order: the level's byte, the generation, identity, the payload; the other reads lie within these
+-- `verified_page_view`, READING-RULES 7.3: the Rust's order: the level's byte, the generation, identity, the payload; the other reads lie within these
 abbrev pub verifiedDemands : TreeRef → List ℕ → TreeKind → ℕ → Expected → List ℕ → List Demand
 verifiedDemands reference uuid kind parent expected page =
     within page 14 1 otherwise Corrupt reason.pageLength
@@ -33,7 +33,7 @@ unfoldable pub verifiedPageView : TreeRef → List ℕ → TreeKind → ℕ → 
 verifiedPageView reference uuid kind parent expected page =
     outcome (verifiedDemands reference uuid kind parent expected page) refusedPage (acceptedPage page)
 
--- a page that is still being built: its count, its payload length and its payload are there; the total is not read
+-- `draft_page_view`, READING-RULES 7.3: a page that is still being built: its count, its payload length and its payload are there
 abbrev pub draftDemands : List ℕ → List Demand
 draftDemands page =
     within page 32 2 otherwise Corrupt reason.draftEntryCount
@@ -41,7 +41,7 @@ draftDemands page =
     ∷ within page 80 (payloadLength page) otherwise Corrupt reason.draftPayloadLength
     ∷ []
 
--- section 4: the numbers of a draft; it has no total yet
+-- `draft_page_view`, READING-RULES 7.3: the numbers of a draft; its total is not read, and is 0
 abbrev pub draftNumbers : List ℕ → Page
 draftNumbers page = record {
   class = 0;
@@ -53,6 +53,6 @@ draftNumbers page = record {
   end = 80 + payloadLength page;
 }
 
--- section 4: `draft_page_view`, in numbers
+-- `draft_page_view`, READING-RULES 7.3: the answer in numbers
 unfoldable pub draftPageView : List ℕ → Page
 draftPageView page = outcome (draftDemands page) refusedPage (draftNumbers page)

@@ -27,7 +27,7 @@ pub record Found (payload : RefT (List ℕ)) (a : Answer) (r : FloorRecord) : Ty
   pub remaining : r .remaining ≡ a .remaining
   pub from : IsPart payload (a .from) (a .end - a .from) (r .payload)
 
--- section 5: the record at a step's places of a payload, and the payload after it
+-- `next` of `Records`: the record at a step's places of a payload, and the payload after it
 pub record Stepped (payload : RefT (List ℕ)) (s : Step) (r : Next) : Type 0 where
   pub found : r .found ≡ s .found
   pub key : IsPart payload (s .«key_start») (s .«key_end» - s .«key_start») (r .key)

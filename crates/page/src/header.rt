@@ -106,7 +106,7 @@ fn level_fits(page: &[u8]) -> bool
     ((kind != 1) | (level == 0)) & ((kind != 2) | ((1 <= level) & (level <= 7)))
 }
 
-// Whether the page's level is the one that is expected.
+// Whether the page's level is the one that is expected, if any is.
 pub fn is_expected(expected: Expected, page: &[u8]) -> bool
     ensures { λ r. ⌜ r ≡ isExpected expected (now (page .entry)) ⌝ }
 {
@@ -135,7 +135,7 @@ pub fn is_of_tree(kind: TreeKind, page: &[u8]) -> bool
     octets::byte_at(page, PageView::TREE_KIND_OFFSET) == volume::tree_kind_value(kind)
 }
 
-// What kind of page it is.
+// Page kind, tree kind, level and reserved bytes.
 fn check_kind(kind: TreeKind, expected: Expected, page: &[u8]) -> Check
     ensures { λ r. ⌜ r ≡ checkKind kind expected (now (page .entry)) ⌝ }
 {

@@ -102,7 +102,7 @@ fn padding_zero(page: &[u8]) -> bool
     octets::all_zero(octets::tail(page, end))
 }
 
-// The records, the leaf's total, the padding, and two children in an internal page.
+// The records, the leaf's total, the padding, and at least two children in an internal page.
 fn check_content(kind: TreeKind, blocks: u64, page: &[u8]) -> Check
     ensures { λ r. ⌜ r ≡ checkContent kind blocks (now (page .entry)) ⌝ }
 {
@@ -198,7 +198,7 @@ fn holds_payload(page: &[u8]) -> bool
         <= page.len()
 }
 
-// The answer that the page got earlier, rechecking only its identity.
+// The answer on a page that was accepted earlier, rechecking only its identity, and that its payload lies within it.
 pub fn verified_answer(
     page: &[u8],
     reference: TreeRef,

@@ -17,7 +17,7 @@ pub struct PageView<'a> {
 }
 
 impl<'a> PageView<'a> {
-    // Sizes and offsets of a page.
+    // Sizes, magic, revision and offsets of a page.
     pub const BYTES: usize = 4096;
 
     pub const PAYLOAD_OFFSET: usize = 80;

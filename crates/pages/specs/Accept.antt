@@ -50,7 +50,7 @@ pub record HeaderHolds (reference : TreeRef) (uuid : List ℕ) (kind : TreeKind)
   pub total-fits : total page ≤ blocks
   pub total-allowed : totalAllowed kind page ≡ true
 
--- the records are accepted (the crate walk says plainly when), a leaf's total is theirs, zeros follow, and an internal page has two children
+-- the records are accepted (the crate walk says plainly when), a leaf's total is theirs, zeros follow, and an internal page has two children at least
 pub record ContentHolds (kind : TreeKind) (blocks : ℕ) (page : List ℕ) : Type 0 where
   pub records : numberCheck (validatePageRecords kind blocks page) ≡ Passed
   pub leaf-total : pageKind page ≡ 1 → total page ≡ numberOf (validatePageRecords kind blocks page)

@@ -1,4 +1,4 @@
--- Each kind of record (01, section 5) is accepted exactly when each of its demands holds; no order is in it.
+-- What the checks of records accept (01, section 5, and the Rust's field rules): each accepts exactly when each of its demands holds; no order is in it.
 use Prim.Native.Nat.{ℕ, _≤_, _<_}
 use mathlib.Core.Path.{_≡_}
 use mathlib.Core.Bool.{true}
@@ -18,7 +18,7 @@ use Rattle.record.specs.Workspace.{workspaceKeyDemands, validateWorkspac
 use Rattle.record.specs.Internal.{childRef, internalDemands, validateInternalRecord}
 use Rattle.record.specs.Leaf.{leafDemands, leafBlocks, validateLeafRecord, recordSizeDemands, leafRecordBlocks}
 
--- section 5: records of every tree, leaf and internal
+-- records of the allocation, the cleanup and the workspace tree, internal records and leaf records of every tree
 pub record RecordsExactly : Type 0 where
   pub allocation-group : (key value : List ℕ) (blocks : ℕ) (mode : Validation) → (validateAllocationGroup key value blocks mode ≡ Passed) ↔ AllHold (allocationGroupDemands key value blocks mode)
   -- a range of blocks is taken exactly when each block in it is

@@ -12,15 +12,15 @@ use Rattle.catalog.specs.Times.{validateTimestampRange}
 use Rattle.catalog.specs.Extent.{validateExtent}
 use Rattle.record.specs.Cleanup.{validateCleanupKeyValue}
 
--- an extent of owner 1 at logical block 0 and physical block 512, and of so many blocks
+-- the key of an extent of owner 1 at logical block 0
 abbrev pub extentKey : List ℕ
 extentKey = replicate 7 0 ++ (1 ∷ 3 ∷ replicate 8 0)
 
--- an extent at block 512, of so many blocks
+-- the value of an extent at block 512, of so many blocks (below 256)
 abbrev pub extentAt512 : ℕ → List ℕ
 extentAt512 count = 0 ∷ 2 ∷ (replicate 6 0 ++ (count ∷ replicate 7 0))
 
--- the marker of an orphan
+-- the key of an orphan marker, of an object below 256; its value is empty
 abbrev pub orphanKey : ℕ → List ℕ
 orphanKey object = 3 ∷ (replicate 7 0 ++ (object ∷ []))
 

@@ -35,11 +35,11 @@ detachedTreeGroups key value blocks pageGeneration mode =
 
 -- the kind and the length of a retirement's key in an internal page of the cleanup tree
 abbrev pub isRetirementKey : ℕ → ℕ → Bool
-isRetirementKey kind length = eqb kind 1 && eqb length 17
+isRetirementKey kind len = eqb kind 1 && eqb len 17
 
 -- those of a key that holds a job or an object
 abbrev pub isOwnerKey : ℕ → ℕ → Bool
-isOwnerKey kind length = (eqb kind 2 || eqb kind 3) && eqb length 9
+isOwnerKey kind len = (eqb kind 2 || eqb kind 3) && eqb len 9
 
 -- a leaf record of the catalog
 unfoldable pub catalogLeaf : List ℕ → List ℕ → ℕ → Validation → Number

@@ -296,10 +296,10 @@ fn cleanup_record(
     Check::Refused(error::violation(mode, reason::UNKNOWN_CLEANUP_RECORD_KIND))
 }
 
-fn is_cleanup_length(length: usize) -> bool
-    ensures { λ r. ⌜ r ≡ isCleanupLength length ⌝ }
+fn is_cleanup_length(len: usize) -> bool
+    ensures { λ r. ⌜ r ≡ isCleanupLength len ⌝ }
 {
-    (length == 9) | (length == 17)
+    (len == 9) | (len == 17)
 }
 
 // Check a record of the cleanup tree.
@@ -402,17 +402,18 @@ fn retirement_key(
     Check::Passed
 }
 
-fn is_retirement_key(kind: u8, length: usize) -> bool
-    ensures { λ r. ⌜ r ≡ isRetirementKey kind length ⌝ }
+// Whether kind and length are those of a retirement's key.
+fn is_retirement_key(kind: u8, len: usize) -> bool
+    ensures { λ r. ⌜ r ≡ isRetirementKey kind len ⌝ }
 {
-    (kind == 1) & (length == 17)
+    (kind == 1) & (len == 17)
 }
 
-// A detached tree's key holds its job, an orphan's its object.
-fn is_owner_key(kind: u8, length: usize) -> bool
-    ensures { λ r. ⌜ r ≡ isOwnerKey kind length ⌝ }
+// Whether kind and length are those of a cleanup key that holds a job (kind 2) or an object (kind 3).
+fn is_owner_key(kind: u8, len: usize) -> bool
+    ensures { λ r. ⌜ r ≡ isOwnerKey kind len ⌝ }
 {
-    ((kind == 2) | (kind == 3)) & (length == 9)
+    ((kind == 2) | (kind == 3)) & (len == 9)
 }
 
 fn cleanup_internal_key(key: &[u8], blocks: u64, page_generation: u64, mode: Validation) -> Check
@@ -511,7 +512,7 @@ pub fn validate_internal_record(
     )
 }
 
-// A record that counts no blocks.
+// The answer of a record that counts no blocks.
 fn counts_none(c: Check) -> Number
     ensures { λ r. ⌜ r ≡ countsNone c ⌝ }
 {
@@ -521,7 +522,7 @@ fn counts_none(c: Check) -> Number
     }
 }
 
-// A record of the catalog that counts no blocks.
+// Check a record of the catalog that counts no blocks, by its kind.
 fn uncounted_record(key: &[u8], value: &[u8], blocks: u64, mode: Validation) -> Check
     ensures { λ r. ⌜ r ≡ uncountedRecord (now (key .entry)) (now (value .entry)) blocks mode ⌝ }
 {

@@ -1,4 +1,4 @@
--- Numbers as text, and a text laid into a lent buffer.
+-- Numbers as text.
 use Prim.Native.Nat.{ℕ, zero, suc, _+_, _/_, _%_}
 use mathlib.Core.Bool.{cond}
 use mathlib.Core.List.{List, [], _∷_, _++_}

@@ -73,7 +73,7 @@ fn answer(out: &mut [u8], at: usize, number: u64, class: u16, reason: u16) -> us
     number_field(out, classed, reason as u64)
 }
 
-// A root's label, empty for none.
+// A space and a root's label, `-` for an empty one.
 pub fn label_field(out: &mut [u8], at: usize, label: &[u8]) -> usize
     ensures { λ r. ⌜ Laid (now (out .entry)) at (labelField (now (label .entry))) (now (out .exit)) r ⌝ }
 {

@@ -19,21 +19,21 @@ use Rattle.root.specs.declared.Root.{Root}
 abbrev pub maxId : ℕ
 maxId = 2 ^ 63 - 1
 
--- the volume and the slot, the UUID, the generation and the blocks, and the workspace cursor
+-- `validate_root_fields`, READING-RULES 6.2: the volume and the slot, the UUID, the generation and the blocks, and the workspace cursor
 abbrev pub generalDemands : List ℕ → ℕ → ℕ → ℕ → ℕ → ℕ → Validation → List Demand
-generalDemands uuid generation size cursor slot blocks mode =
+generalDemands uuid generation ownBlocks cursor slot blocks mode =
     passing (validateBlocks blocks mode)
     ∷ passing (validateRootSlot slot blocks mode)
     ∷ passing (validateUuid uuid mode)
-    ∷ (not (eqb generation 0) && eqb size blocks) otherwise violationOf mode reason.invalidRootGenerationOrGeometry
+    ∷ (not (eqb generation 0) && eqb ownBlocks blocks) otherwise violationOf mode reason.invalidRootGenerationOrGeometry
     ∷ ltb cursor (groupsOf blocks) otherwise violationOf mode reason.workspaceScanCursorExceedsGeometry
     ∷ []
 
--- section 3: the first that fails answers
+-- 01, "Return classes": the first that fails answers
 unfoldable pub checkGeneral : List ℕ → ℕ → ℕ → ℕ → ℕ → ℕ → Validation → Check
-checkGeneral uuid generation size cursor slot blocks mode = demands (generalDemands uuid generation size cursor slot blocks mode)
+checkGeneral uuid generation ownBlocks cursor slot blocks mode = demands (generalDemands uuid generation ownBlocks cursor slot blocks mode)
 
--- the references of the three trees, each by itself
+-- `validate_root_fields`, READING-RULES 6.2: the references of the three trees, each by itself
 abbrev pub refsDemands : TreeRef → TreeRef → TreeRef → ℕ → Validation → List Demand
 refsDemands catalog allocation cleanup blocks mode =
     passing (validateTreeRef catalog blocks mode)
@@ -41,18 +41,18 @@ refsDemands catalog allocation cleanup blocks mode =
     ∷ passing (validateTreeRef cleanup blocks mode)
     ∷ []
 
--- section 3: the first that fails answers
+-- 01, "Return classes": the first that fails answers
 unfoldable pub checkRefs : TreeRef → TreeRef → TreeRef → ℕ → Validation → Check
 checkRefs catalog allocation cleanup blocks mode = demands (refsDemands catalog allocation cleanup blocks mode)
 
--- the workspace's reference names a bank root, and is not newer than the root
+-- `validate_root_fields`, READING-RULES 6.2: the workspace's reference names a bank root, and is not newer than the root
 abbrev pub workspaceDemands : TreeRef → ℕ → ℕ → Validation → List Demand
 workspaceDemands workspace generation blocks mode =
     passing (validatePageRef workspace TreeKind.Workspace blocks mode)
     ∷ (isBankRoot (workspace .block) blocks && leb (workspace .generation) generation) otherwise violationOf mode reason.invalidWorkspaceRoot
     ∷ []
 
--- section 3: the first that fails answers
+-- 01, "Return classes": the first that fails answers
 unfoldable pub checkWorkspace : TreeRef → ℕ → ℕ → Validation → Check
 checkWorkspace workspace generation blocks mode = demands (workspaceDemands workspace generation blocks mode)
 
@@ -64,18 +64,18 @@ areApart a b c = not (eqb a b) && not (eqb a c) && not (eqb b c)
 abbrev pub areUpTo : ℕ → ℕ → ℕ → ℕ → Bool
 areUpTo a b c limit = leb a limit && leb b limit && leb c limit
 
--- the three trees together: three distinct blocks, none newer than the root
+-- `validate_root_fields`, READING-RULES 6.2: the three trees together: three distinct blocks, none newer than the root
 abbrev pub treesDemands : TreeRef → TreeRef → TreeRef → ℕ → Validation → List Demand
 treesDemands catalog allocation cleanup generation mode =
     areApart (catalog .block) (allocation .block) (cleanup .block) otherwise violationOf mode reason.rootTreeReferencesShareABlock
     ∷ areUpTo (catalog .generation) (allocation .generation) (cleanup .generation) generation otherwise violationOf mode reason.rootTreeGenerationIsNewerThanRoot
     ∷ []
 
--- section 3: the first that fails answers
+-- 01, "Return classes": the first that fails answers
 unfoldable pub checkTrees : TreeRef → TreeRef → TreeRef → ℕ → Validation → Check
 checkTrees catalog allocation cleanup generation mode = demands (treesDemands catalog allocation cleanup generation mode)
 
--- the next object and job numbers, and at most B - 1,027 free blocks: all but the reserved ones and those of the three trees
+-- `validate_root_fields`, READING-RULES 6.2: next object 2..2^63 - 1, next job 1..2^63 - 1, and at most B - 1,027 free blocks: all but the reserved ones and those of the three trees
 abbrev pub numbersDemands : ℕ → ℕ → ℕ → ℕ → Validation → List Demand
 numbersDemands object job free blocks mode =
     (leb 2 object && leb object maxId) otherwise violationOf mode reason.invalidNextObjectId
@@ -83,11 +83,11 @@ numbersDemands object job free blocks mode =
     ∷ leb free (blocks - 1027) otherwise violationOf mode reason.freeBlockCountExceedsGeometry
     ∷ []
 
--- section 3: the first that fails answers
+-- 01, "Return classes": the first that fails answers
 unfoldable pub checkNumbers : ℕ → ℕ → ℕ → ℕ → Validation → Check
 checkNumbers object job free blocks mode = demands (numbersDemands object job free blocks mode)
 
--- `validate_root_fields`
+-- `validate_root_fields`, READING-RULES 6.2: all checks of a root's fields, group by group, in order
 abbrev pub fieldDemands : Root → ℕ → ℕ → Validation → List Demand
 fieldDemands r slot blocks mode =
     passing (checkGeneral (r .uuid) (r .generation) (r .blocks) (r .«workspace_cursor») slot blocks mode)
@@ -97,6 +97,6 @@ fieldDemands r slot blocks mode =
     ∷ passing (checkNumbers (r .«next_object») (r .«next_job») (r .«free_blocks») blocks mode)
     ∷ []
 
--- section 3: the first that fails answers
+-- 01, "Return classes": the first that fails answers
 unfoldable pub validateRootFields : Root → ℕ → ℕ → Validation → Check
 validateRootFields r slot blocks mode = demands (fieldDemands r slot blocks mode)

@@ -41,15 +41,15 @@ textOf label = take (label .len) (label .bytes)
 unfoldable pub labelOf : List ℕ → Label
 labelOf text = record { len = length text; bytes = paddedTo 255 text }
 
--- 01, section 3: length 0 is no label
+-- 01, section 3: length 0 is no label; its bytes are zeros
 unfoldable pub noLabel : Label
 noLabel = record { len = 0; bytes = replicate 255 0 }
 
--- section 3: beside a refusal the label is all zero
+-- 01, "Return classes": beside a refusal the label is all zero
 abbrev pub labelRefused : Error → NewLabel
 labelRefused e = record { answer = Refused e; label = noLabel }
 
--- section 3: what is asked of a label
+-- section 3: what is asked of a label that `Label::new` is given
 abbrev pub labelDemands : List ℕ → List Demand
 labelDemands text = isLabel text otherwise InvalidInput reason.invalidVolumeLabel ∷ []
 

@@ -22,7 +22,7 @@ use Rattle.root.specs.Fields.{validateRootFields}
 use Rattle.root.specs.declared.Root.{Root}
 use Rattle.root.specs.declared.Decoded.{Decoded}
 
--- `CFSXROOT`
+-- section 3: `CFSXROOT`
 abbrev pub magic : List ℕ
 magic = 0x43 ∷ 0x46 ∷ 0x53 ∷ 0x58 ∷ 0x52 ∷ 0x4F ∷ 0x4F ∷ 0x54 ∷ []
 
@@ -42,7 +42,7 @@ labelText s = part s 186 (labelLength s)
 unfoldable pub labelPadding : List ℕ → List ℕ
 labelPadding s = part s (186 + labelLength s) (4092 - (186 + labelLength s))
 
--- the fields of the root in a block
+-- section 3: the fields of the root in a block
 unfoldable pub rootOf : List ℕ → Root
 rootOf s = record {
   «has_label» = hasLabel s;
@@ -60,7 +60,7 @@ rootOf s = record {
   «workspace_cursor» = u64At s 176;
 }
 
--- length, geometry (class 1), slot (2)
+-- section 3: length, geometry (class 1), slot (2)
 abbrev pub placeDemands : List ℕ → ℕ → ℕ → List Demand
 placeDemands s slot blocks =
     eqb (length s) 4096 otherwise Corrupt reason.rootPageLength
@@ -68,19 +68,19 @@ placeDemands s slot blocks =
     ∷ passing (validateRootSlot slot blocks Input)
     ∷ []
 
--- section 3: the first that fails answers
+-- 01, "Return classes": the first that fails answers
 unfoldable pub checkPlace : List ℕ → ℕ → ℕ → Check
 checkPlace s slot blocks = demands (placeDemands s slot blocks)
 
--- 01, section 1: a block's word is taken with its own four bytes as zero
+-- section 3: checksum u32 at 4092, taken with its own four bytes as zero (section 1)
 unfoldable pub checksumFits : List ℕ → Bool
 checksumFits s = eqb (crc32cWithZero s 4092 4096) (u32At s 4092)
 
--- at 12, 16, 20: 4096, 4096, 65536
+-- section 3: at 12, 16, 20: 4096, 4096, 65536
 unfoldable pub areSizesRight : List ℕ → Bool
 areSizesRight s = eqb (u32At s 12) 4096 && eqb (u32At s 16) 4096 && eqb (u32At s 20) 65536
 
--- checksum at 4092, magic, revision (4), the three sizes
+-- section 3: checksum at 4092, magic, revision u32 at 8 = 1 (4), the three sizes
 abbrev pub envelopeDemands : List ℕ → List Demand
 envelopeDemands s =
     checksumFits s otherwise Corrupt reason.rootChecksum
@@ -89,22 +89,22 @@ envelopeDemands s =
     ∷ areSizesRight s otherwise Corrupt reason.rootEnvelope
     ∷ []
 
--- section 3: the first that fails answers
+-- 01, "Return classes": the first that fails answers
 unfoldable pub checkEnvelope : List ℕ → Check
 checkEnvelope s = demands (envelopeDemands s)
 
--- a label's text is UTF-8, and a label
+-- `Root::decode`, READING-RULES 6.2: a label's text is UTF-8, and a label
 abbrev pub textDemands : List ℕ → List Demand
 textDemands text =
     utf8 text otherwise Corrupt reason.rootLabelUtf8
     ∷ isLabel text otherwise Corrupt reason.invalidRootLabel
     ∷ []
 
--- section 3: the first that fails answers
+-- 01, "Return classes": the first that fails answers
 unfoldable pub checkText : List ℕ → Check
 checkText text = demands (textDemands text)
 
--- label length at most 255; zeros after the label to 4092; label checked, and length 0 is no label
+-- section 3: label length at most 255; zeros after the label to 4092; label checked, and length 0 is no label
 abbrev pub labelFieldDemands : List ℕ → List Demand
 labelFieldDemands s =
     leb (labelLength s) 255 otherwise Corrupt reason.rootLabelLength
@@ -112,11 +112,11 @@ labelFieldDemands s =
     ∷ passing (cond (eqb (labelLength s) 0) Passed (checkText (labelText s)))
     ∷ []
 
--- section 3: the first that fails answers
+-- 01, "Return classes": the first that fails answers
 unfoldable pub checkLabel : List ℕ → Check
 checkLabel s = demands (labelFieldDemands s)
 
--- features 128 = 0, profile 136 = 2, state 140 = 0 (these three class 4), self block and blocks against the arguments, the reserve
+-- section 3: features 128 = 0, profile 136 = 2, state 140 = 0 (these three class 4), self block and blocks against the arguments, the reserve
 abbrev pub identityDemands : List ℕ → ℕ → ℕ → List Demand
 identityDemands s slot blocks =
     (eqb (u64At s 128) 0 && eqb (u32At s 136) 2 && eqb (u32At s 140) 0) otherwise UnsupportedFormat
@@ -124,11 +124,11 @@ identityDemands s slot blocks =
     ∷ eqb (u64At s 144) 16384 otherwise Corrupt reason.rootMaintenanceReserve
     ∷ []
 
--- section 3: the first that fails answers
+-- 01, "Return classes": the first that fails answers
 unfoldable pub checkIdentity : List ℕ → ℕ → ℕ → Check
 checkIdentity s slot blocks = demands (identityDemands s slot blocks)
 
--- all that comes before the fields are read
+-- section 3: all that comes before `validate_root_fields`, group by group, in order
 abbrev pub blockDemands : List ℕ → ℕ → ℕ → List Demand
 blockDemands s slot blocks =
     passing (checkPlace s slot blocks)
@@ -137,15 +137,15 @@ blockDemands s slot blocks =
     ∷ passing (checkIdentity s slot blocks)
     ∷ []
 
--- section 3: the first that fails answers
+-- 01, "Return classes": the first that fails answers
 unfoldable pub checkBlock : List ℕ → ℕ → ℕ → Check
 checkBlock s slot blocks = demands (blockDemands s slot blocks)
 
--- beside a refusal every field is 0 or none
+-- 01, "Return classes": the reference that stands beside a refusal, all zero
 abbrev pub noRef : TreeRef
 noRef = record { block = 0; generation = 0 }
 
--- section 3: the root that stands beside a refusal, all zero
+-- 01, "Return classes": the root that stands beside a refusal, all zero, without a label
 unfoldable pub noRoot : Root
 noRoot = record {
   «has_label» = false;
@@ -163,11 +163,11 @@ noRoot = record {
   «workspace_cursor» = 0;
 }
 
--- section 3: a refusal
+-- 01, "Return classes": a refusal, and no root beside it
 abbrev pub rootRefused : Error → Decoded
 rootRefused e = record { answer = Refused e; root = noRoot }
 
--- `Root::decode`
+-- section 3: what `Root::decode` asks, in order
 abbrev pub rootDemands : List ℕ → ℕ → ℕ → List Demand
 rootDemands s slot blocks =
     passing (checkBlock s slot blocks)

@@ -26,7 +26,7 @@ sameLabel true a false b = false
 sameLabel false a true b = false
 sameLabel false a false b = true
 
--- section 3: references are the same
+-- two references: block and generation are the same
 abbrev pub sameRef : TreeRef → TreeRef → Bool
 sameRef a b = eqb (a .block) (b .block) && eqb (a .generation) (b .generation)
 
@@ -50,7 +50,7 @@ sameRoot a b =
 abbrev pub selection : ℕ → Root → Selected
 selection n r = record { answer = Passed; which = n; root = r }
 
--- section 3: a refusal, and neither root
+-- 01, "Return classes": a refusal, and neither root beside it
 abbrev pub selectionRefused : Error → Selected
 selectionRefused e = record { answer = Refused e; which = 0; root = noRoot }
 
@@ -65,7 +65,7 @@ pairDemands a b =
 unfoldable pub selectPair : Root → Root → Selected
 selectPair a b = outcome (pairDemands a b) selectionRefused (cond (leb (b .generation) (a .generation)) (selection 1 a) (selection 2 b))
 
--- none, class 3; one, that one; two, as above
+-- section 3: none, class 3; one, that one; two, as above
 abbrev pub selectBy : Bool → Bool → Root → Root → Selected
 selectBy false false a b = selectionRefused (Corrupt reason.neitherCurrentRootIsValid)
 selectBy true false a b = selection 1 a
@@ -80,7 +80,7 @@ selectRoot a b = selectBy (a .present) (b .present) (a .root) (b .root)
 abbrev pub oneRoot : Root → MaybeRoot
 oneRoot r = record { present = true; root = r }
 
--- section 3: no root
+-- no root
 abbrev pub none : MaybeRoot
 none = record { present = false; root = noRoot }
 

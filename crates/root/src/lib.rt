@@ -181,7 +181,7 @@ fn check_text(text: &[u8]) -> Check
     Check::Passed
 }
 
-// A label of length 0 is no label, and has no rules to meet.
+// The label's length, the zeros behind it, and its text. A label of length 0 is no label, and has no rules to meet.
 fn check_label(bytes: &[u8]) -> Check
     requires { ⌜ length (now bytes) ≡ 4096 ⌝ }
     ensures { λ r. ⌜ r ≡ checkLabel (now (bytes .entry)) ⌝ }
@@ -224,7 +224,7 @@ fn check_identity(bytes: &[u8], slot: u64, blocks: u64) -> Check
     Check::Passed
 }
 
-// Every check that comes before the fields are read.
+// Every check that comes before `validate_root_fields`.
 fn check_block(bytes: &[u8], slot: u64, blocks: u64) -> Check
     ensures { λ r. ⌜ r ≡ checkBlock (now (bytes .entry)) slot blocks ⌝ }
 {
@@ -289,13 +289,13 @@ fn root_of(bytes: &[u8]) -> Root
 fn check_general(
     uuid: &[u8; 16],
     generation: u64,
-    size: u64,
+    own_blocks: u64,
     cursor: u64,
     slot: u64,
     blocks: u64,
     mode: Validation,
 ) -> Check
-    ensures { λ r. ⌜ r ≡ checkGeneral (now (uuid .entry)) generation size cursor slot blocks mode ⌝ }
+    ensures { λ r. ⌜ r ≡ checkGeneral (now (uuid .entry)) generation «own_blocks» cursor slot blocks mode ⌝ }
 {
     let range = volume::validate_blocks(blocks, mode);
     let Check::Passed = range else {
@@ -312,7 +312,7 @@ fn check_general(
     if generation == 0 {
         return Check::Refused(violation(mode, reason::INVALID_ROOT_GENERATION_OR_GEOMETRY));
     }
-    if size != blocks {
+    if own_blocks != blocks {
         return Check::Refused(violation(mode, reason::INVALID_ROOT_GENERATION_OR_GEOMETRY));
     }
     if volume::groups_of(blocks) <= cursor {
@@ -561,7 +561,7 @@ impl Root {
     }
 }
 
-// Labels count only where both are there.
+// Whether two labels are the same; their bytes count only where both are there.
 fn same_label(has_a: bool, a: Label, has_b: bool, b: Label) -> bool
     ensures { λ r. ⌜ r ≡ sameLabel «has_a» a «has_b» b ⌝ }
 {

@@ -42,7 +42,7 @@ LabelExactly = (text : List ℕ) → (labelNew text .answer ≡ Passed) ↔ Labe
 
 -- ---- roots
 
--- a tree's reference, on a volume of so many blocks and in a root of that generation: a non-reserved block, and a generation
+-- a tree's reference, on a volume of so many blocks and in a root of that generation: a non-reserved block, and a generation from 1 to the root's
 pub record TreeHolds (block born generation blocks : ℕ) : Type 0 where
   pub low : 512 ≤ block
   pub high : block < blocks - 512
@@ -66,7 +66,7 @@ pub record RootHolds (s : List ℕ) (slot blocks : ℕ) : Type 0 where
   pub label-length : u16At s 184 ≤ 255
   pub padding : part s (186 + u16At s 184) (4092 - (186 + u16At s 184)) ≡ replicate (4092 - (186 + u16At s 184)) 0
   pub label : (u16At s 184 ≡ 0) ⊎ LabelHolds (part s 186 (u16At s 184))
-  -- what this reader supports
+  -- what this reader supports, and the reserve
   pub features : u64At s 128 ≡ 0
   pub profile : u32At s 136 ≡ 2
   pub state : u32At s 140 ≡ 0
@@ -83,7 +83,7 @@ pub record RootHolds (s : List ℕ) (slot blocks : ℕ) : Type 0 where
   pub catalog-allocation : u64At s 64 ≡ u64At s 80 → ⊥
   pub catalog-cleanup : u64At s 64 ≡ u64At s 96 → ⊥
   pub allocation-cleanup : u64At s 80 ≡ u64At s 96 → ⊥
-  -- the workspace: a bank root, a generation, and a group of the volume
+  -- the workspace: a bank root, a generation from 1 to the root's, and a cursor at a group of the volume
   pub workspace : (u64At s 160 ≡ 32) ⊎ (u64At s 160 ≡ blocks - 96)
   pub workspace-some : 1 ≤ u64At s 168
   pub workspace-not-newer : u64At s 168 ≤ u64At s 48

@@ -6,9 +6,8 @@ use mathlib.Core.List.{List, [], _∷_}
 use lib.Dec.{leb, eqb}
 use Rattle.utf8.specs.Rfc3629.{number}
 
--- %xlo-hi
 infix 40 _from_to_
--- RFC 3629, section 4: a number between two others, both counted
+-- section 4, the form %xlo-hi: a number from lo to hi, both counted
 abbrev pub _from_to_ : ℕ → ℕ → ℕ → Bool
 b from lo to hi = leb lo b && leb b hi
 
@@ -45,20 +44,24 @@ pub data Reading : Type 0 where
   bad : Reading
   char : ℕ → Reading → Reading
 
--- bytes are read from the front: a character of one byte, else of two, of three, of four
+-- bytes are read from the front, character by character
 unfoldable mutual
+  -- a character of one byte, else one of more
   pub read : List ℕ → Reading
   read [] = end
   read (a ∷ s) = cond (one a) (char (number (a ∷ [])) (read s)) (read1 s a)
 
+  -- behind a first byte: a character of two, else one of more
   pub read1 : List ℕ → ℕ → Reading
   read1 [] a = bad
   read1 (b ∷ s) a = cond (two a b) (char (number (a ∷ b ∷ [])) (read s)) (read2 s a b)
 
+  -- behind two bytes: a character of three, else one of four
   pub read2 : List ℕ → ℕ → ℕ → Reading
   read2 [] a b = bad
   read2 (c ∷ s) a b = cond (three a b c) (char (number (a ∷ b ∷ c ∷ [])) (read s)) (read3 s a b c)
 
+  -- behind three bytes: a character of four, else none
   pub read3 : List ℕ → ℕ → ℕ → ℕ → Reading
   read3 [] a b c = bad
   read3 (d ∷ s) a b c = cond (four a b c d) (char (number (a ∷ b ∷ c ∷ d ∷ [])) (read s)) bad

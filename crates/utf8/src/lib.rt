@@ -7,13 +7,14 @@ ghost use Rattle.utf8.specs.Reading.{one, two, three, four, utf8};
 ghost use Rattle.utf8.specs.Inside.{charLen, charLen2, charLen3, charLen4, frontNumber};
 ghost use Rattle.utf8.specs.Plain.{allowed, plain};
 
-// The printed alternatives of a character of one, two, three and four bytes.
+// Whether a byte is a character: UTF8-1 as it is printed.
 fn is_one(a: u8) -> bool
     ensures { λ r. ⌜ r ≡ one a ⌝ }
 {
     a <= 0x7F
 }
 
+// Whether two bytes are one: UTF8-2.
 fn is_two(a: u8, b: u8) -> bool
     ensures { λ r. ⌜ r ≡ two a b ⌝ }
 {
@@ -21,6 +22,7 @@ fn is_two(a: u8, b: u8) -> bool
     (0xC2 <= a) & (a <= 0xDF) & tail
 }
 
+// Whether three bytes are one: UTF8-3.
 fn is_three(a: u8, b: u8, c: u8) -> bool
     ensures { λ r. ⌜ r ≡ three a b c ⌝ }
 {
@@ -32,6 +34,7 @@ fn is_three(a: u8, b: u8, c: u8) -> bool
         | ((0xEE <= a) & (a <= 0xEF)) & tail_b & tail_c
 }
 
+// Whether four bytes are one: UTF8-4.
 fn is_four(a: u8, b: u8, c: u8, d: u8) -> bool
     ensures { λ r. ⌜ r ≡ four a b c d ⌝ }
 {
@@ -56,6 +59,7 @@ fn char_len4(a: u8, b: u8, c: u8, s: &[u8]) -> usize
     0
 }
 
+// The same where its first two bytes are a, b.
 fn char_len3(a: u8, b: u8, s: &[u8]) -> usize
     ensures { λ r. ⌜ r ≡ charLen3 a b (now (s .entry)) ⌝ }
 {
@@ -69,6 +73,7 @@ fn char_len3(a: u8, b: u8, s: &[u8]) -> usize
     char_len4(a, b, c, &s[1..])
 }
 
+// The same where its first byte is a.
 fn char_len2(a: u8, s: &[u8]) -> usize
     ensures { λ r. ⌜ r ≡ charLen2 a (now (s .entry)) ⌝ }
 {

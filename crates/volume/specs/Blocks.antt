@@ -11,11 +11,11 @@ isNonreservedBlock block blocks = leb 512 block && leb 1024 blocks && ltb block 
 unfoldable pub isNonreservedRun : ℕ → ℕ → ℕ → Bool
 isNonreservedRun first count blocks = isNonreservedBlock first blocks && leb (first + count) (blocks - 512)
 
--- bank roots are 32 and B - 96
+-- bank roots are 32 and B - 96, and B is at least 1,024
 unfoldable pub isBankRoot : ℕ → ℕ → Bool
 isBankRoot block blocks = leb 1024 blocks && (eqb block 32 || eqb block (blocks - 96))
 
--- bank blocks are 32..95 and B - 96..B - 33
+-- bank blocks are 32..95 and B - 96..B - 33, and B is at least 1,024
 unfoldable pub isBankBlock : ℕ → ℕ → Bool
 isBankBlock block blocks =
     leb 1024 blocks && (leb 32 block && leb block 95 || leb (blocks - 96) block && leb block (blocks - 33))

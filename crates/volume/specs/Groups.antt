@@ -8,7 +8,7 @@ use Rattle.error.specs.Reason as reason
 use Rattle.volume.specs.Numbers.{largest, sumFits}
 use Rattle.volume.specs.declared.GroupBlocks.{GroupBlocks}
 
--- the blocks of a group
+-- how many blocks a group has
 abbrev pub allocationGroupBlocks : ℕ
 allocationGroupBlocks = 16384
 

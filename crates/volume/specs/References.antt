@@ -1,4 +1,4 @@
--- The checks of block counts, slots and references (01, section 2, and the order of `validate_page_ref` and its like).
+-- The checks of block counts, references, slots and UUIDs (01, section 2, in the order of the Rust's `validate_page_ref` and its like).
 use Prim.Native.Nat.{ℕ, _+_}
 use mathlib.Core.Bool.{Bool, not, _&&_, cond}
 use mathlib.Core.List.{List, [], _∷_}
@@ -25,7 +25,7 @@ treeKindValue TreeKind.Workspace = 4
 abbrev pub isTreeKindValue : ℕ → Bool
 isTreeKindValue n = leb 1 n && leb n 4
 
--- the tree kind of a number from 1 to 4; of any other it is the workspace, and the programs test first
+-- the tree kind of a number from 1 to 4; of any other it is the workspace, and callers test first
 unfoldable pub treeKindOf : ℕ → TreeKind
 treeKindOf n = cond (eqb n 1) TreeKind.Catalog (cond (eqb n 2) TreeKind.Allocation (cond (eqb n 3) TreeKind.Cleanup TreeKind.Workspace))
 
@@ -33,50 +33,50 @@ treeKindOf n = cond (eqb n 1) TreeKind.Catalog (cond (eqb n 2) TreeKind.Allocati
 abbrev pub refAt : List ℕ → ℕ → TreeRef
 refAt s offset = record { block = u64At s offset; generation = u64At s (offset + 8) }
 
--- B is at least 1,024
+-- 01, section 2: B is at least 1,024
 unfoldable pub validateBlocks : ℕ → Validation → Check
 validateBlocks blocks mode = demands (leb 1024 blocks otherwise violationOf mode reason.deviceHasNoUsableBlockRange ∷ [])
 
--- a reference names a generation, and a block that is not reserved
+-- `validate_tree_ref`, READING-RULES 5.2: B is at least 1,024; a reference names a generation, and a block that is not reserved
 abbrev pub treeRefDemands : TreeRef → ℕ → Validation → List Demand
 treeRefDemands reference blocks mode =
     passing (validateBlocks blocks mode)
     ∷ (not (eqb (reference .generation) 0) && isNonreservedBlock (reference .block) blocks) otherwise violationOf mode reason.invalidTreeReference
     ∷ []
 
--- section 2: the first that fails answers
+-- 01, "Return classes": the first that fails answers
 unfoldable pub validateTreeRef : TreeRef → ℕ → Validation → Check
 validateTreeRef reference blocks mode = demands (treeRefDemands reference blocks mode)
 
--- a reference to a page of the workspace names a generation, and a bank block
+-- `validate_page_ref`, READING-RULES 5.2: B is at least 1,024; a reference to a page of the workspace names a generation, and a bank block
 abbrev pub workspaceRefDemands : TreeRef → ℕ → Validation → List Demand
 workspaceRefDemands reference blocks mode =
     passing (validateBlocks blocks mode)
     ∷ (not (eqb (reference .generation) 0) && isBankBlock (reference .block) blocks) otherwise violationOf mode reason.invalidWorkspacePageReference
     ∷ []
 
--- section 2: the first that fails answers
+-- 01, "Return classes": the first that fails answers
 unfoldable pub validateWorkspaceRef : TreeRef → ℕ → Validation → Check
 validateWorkspaceRef reference blocks mode = demands (workspaceRefDemands reference blocks mode)
 
--- pages of the workspace lie in the banks, those of the other trees outside the reserved blocks
+-- `validate_page_ref`, READING-RULES 5.2: pages of the workspace lie in the banks, those of the other trees outside the reserved blocks
 abbrev pub validatePageRef : TreeRef → TreeKind → ℕ → Validation → Check
 validatePageRef reference TreeKind.Catalog blocks mode = validateTreeRef reference blocks mode
 validatePageRef reference TreeKind.Allocation blocks mode = validateTreeRef reference blocks mode
 validatePageRef reference TreeKind.Cleanup blocks mode = validateTreeRef reference blocks mode
 validatePageRef reference TreeKind.Workspace blocks mode = validateWorkspaceRef reference blocks mode
 
--- a root stands in one of the two slots
+-- 01, section 2: B is at least 1,024; a root stands in one of the two slots
 abbrev pub rootSlotDemands : ℕ → ℕ → Validation → List Demand
 rootSlotDemands slot blocks mode =
     passing (validateBlocks blocks mode)
     ∷ isRootSlot slot blocks otherwise violationOf mode reason.invalidRootSlot
     ∷ []
 
--- section 2: the first that fails answers
+-- 01, "Return classes": the first that fails answers
 unfoldable pub validateRootSlot : ℕ → ℕ → Validation → Check
 validateRootSlot slot blocks mode = demands (rootSlotDemands slot blocks mode)
 
--- a UUID is not all zeros
+-- `validate_uuid`: a UUID is not all zeros
 unfoldable pub validateUuid : List ℕ → Validation → Check
 validateUuid uuid mode = demands (not (allZero uuid) otherwise violationOf mode reason.zeroVolumeUuid ∷ [])

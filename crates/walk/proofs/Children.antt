@@ -15,9 +15,9 @@ use Rattle.lookup.specs.Record.{keyLen, valueLen, splitRecord, isRecord, sizeOf
 use Rattle.lookup.specs.Sorted.{offsetOf}
 use Rattle.octets.proofs.Parts.{field-from}
 use Rattle.lookup.proofs.RecordLaws.{record-is, split-fits}
-use Rattle.walk.specs.Records.{among}
+use Rattle.walk.specs.Records.{isOneOf}
 use Rattle.walk.specs.Inside.{storedBlock, storedBlocks, Kept}
-use Rattle.walk.proofs.Joins.{among-more}
+use Rattle.walk.proofs.Joins.{one-of-more}
 
 -- the whole record at a place, by the numbers that stand there
 module _ (s : List ℕ) (p : ℕ) (whole : isRecord (splitRecord (drop p s)) ≡ true) where
@@ -41,10 +41,10 @@ module _ (rest : List ℕ) (i p : ℕ) (here : p ≡ offsetOf rest i) where
   unfolding offsetOf
   offset-more w = rw (add-one i, ← here) (sym (size-at rest p w))
 
-  pub stored-more : (block : ℕ) (hit : Bool) → isRecord (splitRecord (drop p rest)) ≡ true → hit ≡ among block (storedBlocks rest i)
-      → (hit || eqb (u64At rest (p + 4 + u16At rest p)) block) ≡ among block (storedBlocks rest (i + 1))
+  pub stored-more : (block : ℕ) (hit : Bool) → isRecord (splitRecord (drop p rest)) ≡ true → hit ≡ isOneOf block (storedBlocks rest i)
+      → (hit || eqb (u64At rest (p + 4 + u16At rest p)) block) ≡ isOneOf block (storedBlocks rest (i + 1))
   unfolding storedBlocks
-  stored-more block hit w e = rw (add-one i, storedBlocks, ← here, e, ← block-at rest p w) (sym (among-more block (storedBlock (drop p rest)) (storedBlocks rest i)))
+  stored-more block hit w e = rw (add-one i, storedBlocks, ← here, e, ← block-at rest p w) (sym (one-of-more block (storedBlock (drop p rest)) (storedBlocks rest i)))
 
 pub stored-suc : (rest : List ℕ) (i : ℕ) → storedBlocks rest (suc i) ≡ storedBlocks rest i ++ (storedBlock (drop (offsetOf rest i) rest) ∷ [])
 unfolding storedBlocks

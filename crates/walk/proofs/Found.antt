@@ -14,7 +14,7 @@ use Rattle.lookup.specs.Floor.{floorAt, answerOf, nextRecord}
 use Rattle.lookup.specs.Sorted.{offsetOf, keyAt, Sorted, keyAbove, IsFloor}
 use Rattle.lookup.specs.declared.Floor.{Floor}
 use Rattle.lookup.specs.declared.Floor.the-variants.{At, Nothing}
-use Rattle.walk.specs.Entries.{Entry, stored, laid, Increasing, Fit, Read}
+use Rattle.walk.specs.Entries.{Entry, stored, endToEnd, Increasing, Fit, Read}
 use Rattle.walk.specs.Found.{Finding, found, firstOf, answerFound, lookupIn}
 use Rattle.lookup.proofs.SortedLaws.{answers-same, floor-answers}
 use Rattle.octets.proofs.OrderLaws.{order-same, order-flip}
@@ -26,45 +26,45 @@ none = record { key = []; value = [] }
 
 -- the record found, by a lookup's answer
 abbrev result : List Entry → Floor → Finding
-result es f = answerFound (laid es) (answerOf (length (laid es)) (length es) f)
+result es f = answerFound (endToEnd es) (answerOf (length (endToEnd es)) (length es) f)
 
 module _ (es : List Entry) (fit : (e : Entry) → Among e es → Fit e) where
   small-at : (k : ℕ) → k < length es → 4 + length (getD es k none .key) + length (getD es k none .value) ≤ 3072
   small-at k l = fit (getD es k none) (among-at es k none l) .size
 
-  drop-laid : (k : ℕ) → k ≤ length es → drop (offsetOf (laid es) k) (laid es) ≡ laid (drop k es)
+  drop-laid : (k : ℕ) → k ≤ length es → drop (offsetOf (endToEnd es) k) (endToEnd es) ≡ endToEnd (drop k es)
   unfolding offsetOf flatMap
   drop-laid zero l = refl
   drop-laid (suc k) l =
       let e : Entry = getD es k none in
-      let r : List ℕ = laid (drop (suc k) es) in
-      let o : ℕ = offsetOf (laid es) k in
-      let here : drop o (laid es) ≡ stored e ++ r = drop-laid k (omega arith) ∙ ap laid (drop-cons es k none l) in
-      let z : sizeOf (splitRecord (drop o (laid es))) ≡ 4 + length (e .key) + length (e .value) = ap (λ (s : List ℕ). sizeOf (splitRecord s)) here ∙ ap sizeOf (split-stored e r (small-at k l)) in
-      ap (λ (n : ℕ). drop (o + n) (laid es)) z ∙ sym (drop-drop (4 + length (e .key) + length (e .value)) o (laid es)) ∙ ap (drop (4 + length (e .key) + length (e .value))) here ∙ after-stored e r
+      let r : List ℕ = endToEnd (drop (suc k) es) in
+      let o : ℕ = offsetOf (endToEnd es) k in
+      let here : drop o (endToEnd es) ≡ stored e ++ r = drop-laid k (omega arith) ∙ ap endToEnd (drop-cons es k none l) in
+      let z : sizeOf (splitRecord (drop o (endToEnd es))) ≡ 4 + length (e .key) + length (e .value) = ap (λ (s : List ℕ). sizeOf (splitRecord s)) here ∙ ap sizeOf (split-stored e r (small-at k l)) in
+      ap (λ (n : ℕ). drop (o + n) (endToEnd es)) z ∙ sym (drop-drop (4 + length (e .key) + length (e .value)) o (endToEnd es)) ∙ ap (drop (4 + length (e .key) + length (e .value))) here ∙ after-stored e r
 
   -- record k is entry k
-  at-laid : (k : ℕ) → k < length es → drop (offsetOf (laid es) k) (laid es) ≡ stored (getD es k none) ++ laid (drop (suc k) es)
+  at-laid : (k : ℕ) → k < length es → drop (offsetOf (endToEnd es) k) (endToEnd es) ≡ stored (getD es k none) ++ endToEnd (drop (suc k) es)
   unfolding flatMap
-  at-laid k l = drop-laid k (omega arith) ∙ ap laid (drop-cons es k none l)
+  at-laid k l = drop-laid k (omega arith) ∙ ap endToEnd (drop-cons es k none l)
 
-  key-at : (k : ℕ) → k < length es → keyAt (laid es) k ≡ getD es k none .key
-  key-at k l = ap keyOf (at-laid k l) ∙ key-stored (getD es k none) (laid (drop (suc k) es)) (small-at k l)
+  key-at : (k : ℕ) → k < length es → keyAt (endToEnd es) k ≡ getD es k none .key
+  key-at k l = ap keyOf (at-laid k l) ∙ key-stored (getD es k none) (endToEnd (drop (suc k) es)) (small-at k l)
 
-  laid-sorted : Increasing [] es → Sorted (laid es) (length es)
+  laid-sorted : Increasing [] es → Sorted (endToEnd es) (length es)
   laid-sorted inc = record {
-    whole = λ k l. ap (λ (s : List ℕ). isRecord (splitRecord s)) (at-laid k l) ∙ ap isRecord (split-stored (getD es k none) (laid (drop (suc k) es)) (small-at k l));
+    whole = λ k l. ap (λ (s : List ℕ). isRecord (splitRecord s)) (at-laid k l) ∙ ap isRecord (split-stored (getD es k none) (endToEnd (drop (suc k) es)) (small-at k l));
     increasing = λ i j l m. ap₂ order (key-at i (omega arith)) (key-at j m) ∙ increasing-at [] es none inc i j l m;
   }
 
-  result-at : (i o : ℕ) → i < length es → o ≡ offsetOf (laid es) i → result es (At i o) ≡ found (getD es i none .key) (getD es i none .value)
+  result-at : (i o : ℕ) → i < length es → o ≡ offsetOf (endToEnd es) i → result es (At i o) ≡ found (getD es i none .key) (getD es i none .value)
   result-at i o l e =
-      ap (λ (n : ℕ). firstOf (drop n (laid es)) (length es - i)) e
+      ap (λ (n : ℕ). firstOf (drop n (endToEnd es)) (length es - i)) e
       ∙ ap (λ (s : List ℕ). firstOf s (length es - i)) (at-laid i l)
-      ∙ first-stored (getD es i none) (laid (drop (suc i) es)) (small-at i l) (length es - i) (omega arith)
+      ∙ first-stored (getD es i none) (endToEnd (drop (suc i) es)) (small-at i l) (length es - i) (omega arith)
 
   -- what is found is an entry
-  found-among : (key : List ℕ) (f : Floor) → IsFloor (laid es) (length es) key f → (x : Entry) → result es f ≡ found (x .key) (x .value) → Among x es
+  found-among : (key : List ℕ) (f : Floor) → IsFloor (endToEnd es) (length es) key f → (x : Entry) → result es f ≡ found (x .key) (x .value) → Among x es
   unfolding nextRecord
   found-among key (At i o) a x e =
       let h : found (getD es i none .key) (getD es i none .value) ≡ found (x .key) (x .value) = sym (result-at i o (a .0) (a .1)) ∙ e in
@@ -82,14 +82,14 @@ module _ (es : List Entry) (fit : (e : Entry) → Among e es → Fit e) where
     abbrev sought : List ℕ
     sought = getD es k none .key
 
-    not-above : keyAbove (laid es) sought k ≡ false
+    not-above : keyAbove (endToEnd es) sought k ≡ false
     not-above = ap (λ (x : List ℕ). isGreater (order x sought)) (key-at k l) ∙ ap isGreater (order-same sought)
 
-    above-later : (i : ℕ) → k < i → i < length es → keyAbove (laid es) sought i ≡ true
+    above-later : (i : ℕ) → k < i → i < length es → keyAbove (endToEnd es) sought i ≡ true
     above-later i m n =
         ap (λ (x : List ℕ). isGreater (order x sought)) (key-at i n) ∙ ap isGreater (order-flip sought (getD es i none .key) (increasing-at [] es none inc k i m n))
 
-    at-found : (f : Floor) → IsFloor (laid es) (length es) sought f → result es f ≡ found sought (getD es k none .value)
+    at-found : (f : Floor) → IsFloor (endToEnd es) (length es) sought f → result es f ≡ found sought (getD es k none .value)
     at-found (At i o) a = go (decLt i k) (decLt k i)
       where
         go : Dec (i < k) → Dec (k < i) → result es (At i o) ≡ found sought (getD es k none .value)
@@ -108,10 +108,10 @@ place (e ∷ es) x (later m) =
     let r = place es x m in
     (suc (r .0), omega (arith, r .1), r .2)
 
-member-found : (es : List Entry) → ((e : Entry) → Among e es → Fit e) → Increasing [] es → (x : Entry) → Among x es → (f : Floor) → IsFloor (laid es) (length es) (x .key) f → result es f ≡ found (x .key) (x .value)
+member-found : (es : List Entry) → ((e : Entry) → Among e es → Fit e) → Increasing [] es → (x : Entry) → Among x es → (f : Floor) → IsFloor (endToEnd es) (length es) (x .key) f → result es f ≡ found (x .key) (x .value)
 member-found es fit inc x m f a =
     let r = place es x m in
-    let b : IsFloor (laid es) (length es) (getD es (r .0) none .key) f = subst (λ (y : Entry). IsFloor (laid es) (length es) (y .key) f) (sym (r .2)) a in
+    let b : IsFloor (endToEnd es) (length es) (getD es (r .0) none .key) f = subst (λ (y : Entry). IsFloor (endToEnd es) (length es) (y .key) f) (sym (r .2)) a in
     at-found es fit inc (r .0) (r .1) f b ∙ ap (λ (y : Entry). found (y .key) (y .value)) (r .2)
 
 -- ---- lookups in a payload that an accepted walk read
@@ -120,10 +120,10 @@ module _ (payload : List ℕ) (count : ℕ) (g : Read payload count) (small : le
   entries = g .entries
 
   abbrev floor : List ℕ → ℕ → Floor
-  floor key n = floorAt (laid entries) (length entries) key n
+  floor key n = floorAt (endToEnd entries) (length entries) key n
 
-  answers : (key : List ℕ) (n : ℕ) → IsFloor (laid entries) (length entries) key (floor key n)
-  answers key n = floor-answers (laid entries) key (length entries) (laid-sorted entries (g .fit) (g .increasing)) n (omega (arith, ap length (g .are)))
+  answers : (key : List ℕ) (n : ℕ) → IsFloor (endToEnd entries) (length entries) key (floor key n)
+  answers key n = floor-answers (endToEnd entries) key (length entries) (laid-sorted entries (g .fit) (g .increasing)) n (omega (arith, ap length (g .are)))
 
   lookup-is : (key scratch : List ℕ) → lookupIn payload count key scratch ≡ result entries (floor key (length scratch))
   lookup-is key scratch =
@@ -133,7 +133,7 @@ module _ (payload : List ℕ) (count : ℕ) (g : Read payload count) (small : le
   pub scratch-free : (key s t : List ℕ) → lookupIn payload count key s ≡ lookupIn payload count key t
   scratch-free key s t =
       lookup-is key s
-      ∙ ap (result entries) (answers-same (laid entries) (length entries) key (floor key (length s)) (floor key (length t)) (answers key (length s)) (answers key (length t)))
+      ∙ ap (result entries) (answers-same (endToEnd entries) (length entries) key (floor key (length s)) (floor key (length t)) (answers key (length s)) (answers key (length t)))
       ∙ sym (lookup-is key t)
 
   -- an entry is what the lookup of its key finds, and only an entry is
@@ -156,4 +156,4 @@ runs-agree p q m n g h small-p small-q s t same =
     let e : g .entries ≡ h .entries =
     same-entries [] [] (g .entries) (h .entries) (g .increasing) (h .increasing)
     (inside p q m n g h small-p small-q s t same) (inside q p n m h g small-q small-p t s (λ key b. sym (same key b))) in
-    (sym (g .many) ∙ ap length e ∙ h .many, sym (g .are) ∙ ap laid e ∙ h .are)
+    (sym (g .many) ∙ ap length e ∙ h .many, sym (g .are) ∙ ap endToEnd e ∙ h .are)

@@ -22,8 +22,8 @@ use Rattle.octets.specs.Order.{order, isLess}
 use Rattle.octets.specs.declared.Order.the-variants.{Less}
 use Rattle.volume.specs.Numbers.{largest}
 use Rattle.lookup.specs.Record.{keyLen, valueLen, recordLen, keyOf, valueOf}
-use Rattle.walk.specs.Records.{Own, formDemands, formCheck, among, nextTotal, nextBlocks, joinDemands, joinCheck, ownAnswer, recordDemands, walk, sizeDemands, records}
-use Rattle.walk.specs.Entries.{Entry, stored, laid, Increasing, Fit, numbers, Walked, WalkedExactly}
+use Rattle.walk.specs.Records.{Own, formDemands, formCheck, isOneOf, nextTotal, nextBlocks, joinDemands, joinCheck, ownAnswer, recordDemands, walk, sizeDemands, records}
+use Rattle.walk.specs.Entries.{Entry, stored, endToEnd, Increasing, Fit, numbers, Walked, WalkedExactly}
 use Rattle.walk.proofs.Stored.{key-read, value-read, stored-length, key-stored, value-stored, entryOf, key-length, value-length, stored-front}
 use Rattle.walk.proofs.Joins.{Apart, apart-none, apart-start, apart-more, apart-rest}
 use Rattle.walk.proofs.Turns.{Formed, formed}
@@ -39,7 +39,7 @@ answered ds r n e =
 record From (leaf : Bool) (own : Own) (rest : List ℕ) (left n : ℕ) (previous : List ℕ) (total : ℕ) (seen : List ℕ) (answer : ℕ) : Type 0 where
   entries : List Entry
   many : length entries ≡ n
-  are : laid entries ≡ take left rest
+  are : endToEnd entries ≡ take left rest
   increasing : Increasing previous entries
   fit : (e : Entry) → Among e entries → Fit e
   obey : (e : Entry) → Among e entries → numberCheck (own (e .key) (e .value)) ≡ Passed
@@ -64,9 +64,9 @@ none-left leaf own rest left previous total seen answer z t = record {
 }
 
 -- what the last check of a record says: a child's block is none of those before it, a leaf's total stays small
-fresh-block : (mode : Validation) (total : ℕ) (seen : List ℕ) (n : ℕ) → joinCheck false total seen n mode ≡ Passed → among n seen ≡ false
+fresh-block : (mode : Validation) (total : ℕ) (seen : List ℕ) (n : ℕ) → joinCheck false total seen n mode ≡ Passed → isOneOf n seen ≡ false
 unfolding joinCheck
-fresh-block mode total seen n e = not-true (among n seen) (all-hold (joinDemands false total seen n mode) e .0)
+fresh-block mode total seen n e = not-true (isOneOf n seen) (all-hold (joinDemands false total seen n mode) e .0)
 
 small-total : (mode : Validation) (total : ℕ) (seen : List ℕ) (n : ℕ) → joinCheck true total seen n mode ≡ Passed → total + n < 2 ^ 64
 unfolding joinCheck
@@ -150,19 +150,19 @@ walk-reads leaf mode own rest payloadLength count total b e =
 -- ---- such a list is accepted
 
 -- each record takes four bytes or more
-laid-long : (es : List Entry) → 4 * length es ≤ length (laid es)
+laid-long : (es : List Entry) → 4 * length es ≤ length (endToEnd es)
 unfolding flatMap
 laid-long [] = omega arith
-laid-long (e ∷ es) = omega (arith, laid-long es, stored-length e, length-append (stored e) (laid es))
+laid-long (e ∷ es) = omega (arith, laid-long es, stored-length e, length-append (stored e) (endToEnd es))
 
 -- what is left of the payload starts with an entry
-module _ (e : Entry) (es : List Entry) (rest : List ℕ) (left : ℕ) (l : left ≤ length rest) (are : laid (e ∷ es) ≡ take left rest) (f : Fit e) where
+module _ (e : Entry) (es : List Entry) (rest : List ℕ) (left : ℕ) (l : left ≤ length rest) (are : endToEnd (e ∷ es) ≡ take left rest) (f : Fit e) where
   abbrev behind : List ℕ
-  behind = laid es ++ drop left rest
+  behind = endToEnd es ++ drop left rest
 
   front : rest ≡ stored e ++ behind
   unfolding flatMap
-  front = sym (take-append-drop left rest) ∙ ap (λ (s : List ℕ). s ++ drop left rest) (sym are) ∙ append-assoc (stored e) (laid es) (drop left rest)
+  front = sym (take-append-drop left rest) ∙ ap (λ (s : List ℕ). s ++ drop left rest) (sym are) ∙ append-assoc (stored e) (endToEnd es) (drop left rest)
 
   key-is : keyOf rest ≡ e .key
   key-is = ap keyOf front ∙ key-stored e behind (f .size)
@@ -174,19 +174,19 @@ module _ (e : Entry) (es : List Entry) (rest : List ℕ) (left : ℕ) (l : left 
   size-is = omega (arith, ap keyLen front, key-read e behind (f .size), ap valueLen front, value-read e behind (f .size), stored-length e)
 
   -- all of it is left, and then the other entries
-  left-is : left ≡ length (stored e) + length (laid es)
+  left-is : left ≡ length (stored e) + length (endToEnd es)
   unfolding flatMap
-  left-is = omega (arith, length-take left rest, ap length are, length-append (stored e) (laid es))
+  left-is = omega (arith, length-take left rest, ap length are, length-append (stored e) (endToEnd es))
 
-  rest-are : laid es ≡ take (left - recordLen rest) (drop (recordLen rest) rest)
+  rest-are : endToEnd es ≡ take (left - recordLen rest) (drop (recordLen rest) rest)
   unfolding flatMap
   rest-are =
-      let n : left - recordLen rest ≡ length (laid es) = omega (arith, left-is, size-is) in
+      let n : left - recordLen rest ≡ length (endToEnd es) = omega (arith, left-is, size-is) in
       let d : drop (recordLen rest) rest ≡ behind = ap₂ (λ (m : ℕ) (s : List ℕ). drop m s) size-is front ∙ drop-append-seam (stored e) behind in
       sym (ap₂ (λ (m : ℕ) (s : List ℕ). take m s) n d ∙ ahead)
     where
-      ahead : take (length (laid es)) behind ≡ laid es
-      ahead = take-append-seam (laid es) (drop left rest)
+      ahead : take (length (endToEnd es)) behind ≡ endToEnd es
+      ahead = take-append-seam (endToEnd es) (drop left rest)
 
   form-holds : (previous : List ℕ) (mode : Validation) → order previous (e .key) ≡ Less → formCheck rest left previous mode ≡ Passed
   unfolding formCheck
@@ -221,7 +221,7 @@ join-leaf : (mode : Validation) (total : ℕ) (seen : List ℕ) (n : ℕ) → to
 unfolding joinCheck
 join-leaf mode total seen n h = all-pass (joinDemands true total seen n mode) (le-leb (total + n) largest (omega arith), tt)
 
-join-child : (mode : Validation) (total : ℕ) (seen : List ℕ) (n : ℕ) → among n seen ≡ false → joinCheck false total seen n mode ≡ Passed
+join-child : (mode : Validation) (total : ℕ) (seen : List ℕ) (n : ℕ) → isOneOf n seen ≡ false → joinCheck false total seen n mode ≡ Passed
 unfolding joinCheck
 join-child mode total seen n h = all-pass (joinDemands false total seen n mode) (ap not h, tt)
 
@@ -260,7 +260,7 @@ owed-end true own total seen answer h = omega (arith, h .leaf-total refl)
 owed-end false own total seen answer h = sym (h .internal-total refl)
 
 walk-to : (leaf : Bool) (mode : Validation) (own : Own) (es : List Entry) (rest : List ℕ) (left : ℕ) (previous : List ℕ) (total : ℕ) (seen : List ℕ) (answer : ℕ)
-    → left ≤ length rest → laid es ≡ take left rest → Increasing previous es → ((e : Entry) → Among e es → Fit e) → ((e : Entry) → Among e es → numberCheck (own (e .key) (e .value)) ≡ Passed)
+    → left ≤ length rest → endToEnd es ≡ take left rest → Increasing previous es → ((e : Entry) → Among e es → Fit e) → ((e : Entry) → Among e es → numberCheck (own (e .key) (e .value)) ≡ Passed)
     → Owed leaf own es total seen answer → walk leaf mode own (length es) rest left previous total seen ≡ Number.Value answer
 unfolding walk flatMap
 walk-to leaf mode own [] rest left previous total seen answer l are inc fit obey owed =

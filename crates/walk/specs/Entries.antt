@@ -25,8 +25,8 @@ abbrev pub stored : Entry → List ℕ
 stored e = littleBytes 2 (length (e .key)) ++ (littleBytes 2 (length (e .value)) ++ (e .key ++ e .value))
 
 -- entries laid end to end
-abbrev pub laid : List Entry → List ℕ
-laid es = flatMap stored es
+abbrev pub endToEnd : List Entry → List ℕ
+endToEnd es = flatMap stored es
 
 -- the keys strictly increase, the first being above a given one
 abbrev pub Increasing : List ℕ → List Entry → Type 0
@@ -46,7 +46,7 @@ pub record Fit (e : Entry) : Type 0 where
 pub record Read (payload : List ℕ) (count : ℕ) : Type 0 where
   pub entries : List Entry
   pub many : length entries ≡ count
-  pub are : laid entries ≡ payload
+  pub are : endToEnd entries ≡ payload
   pub increasing : Increasing [] entries
   pub fit : (e : Entry) → Among e entries → Fit e
 

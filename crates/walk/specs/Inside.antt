@@ -28,7 +28,7 @@ joined leaf total n = cond leaf (total + n) n
 unfoldable pub joinOf : Bool → ℕ → ℕ → ℕ → List ℕ → ℕ → Validation → Turn
 joinOf leaf k v total seen n mode = outcome (joinDemands leaf total seen n mode) Turn.Refused (Turn.Passed k v (joined leaf total n))
 
--- all checks of a record
+-- all checks of a record, with the lengths and that number
 unfoldable pub turnOf : Bool → Validation → Own → List ℕ → ℕ → List ℕ → ℕ → List ℕ → Turn
 turnOf leaf mode own rest left previous total seen =
     outcome (recordDemands leaf mode own rest left previous total seen) Turn.Refused

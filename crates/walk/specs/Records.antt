@@ -1,4 +1,4 @@
--- The walk over a page's records (01, section 5). It goes record by record: `rest` is the block from the next record to the block's end, of which
+-- The walk over a page's records (01, section 5, in the order of `validate_records`). It goes record by record: `rest` is the block from the next record to the block's end, of which
 -- the first `left` bytes belong to the payload. A record's two lengths are read even where they lie behind the payload's end.
 use Prim.Native.Nat.{ℕ, zero, suc, _+_, _-_, _/_}
 use mathlib.Core.Bool.{Bool, false, not, _&&_, _||_, cond}
@@ -56,16 +56,16 @@ abbrev pub ownAnswer : Own → List ℕ → Number
 ownAnswer own rest = own (keyOf rest) (valueOf rest)
 
 -- a block is one of a list
-abbrev pub among : ℕ → List ℕ → Bool
-among n [] = false
-among n (m ∷ ms) = eqb m n || among n ms
+abbrev pub isOneOf : ℕ → List ℕ → Bool
+isOneOf n [] = false
+isOneOf n (m ∷ ms) = eqb m n || isOneOf n ms
 
 -- its number beside those of the earlier records: in a leaf the total stays within 64 bits, in an internal page no two children share a block
 abbrev pub joinDemands : Bool → ℕ → List ℕ → ℕ → Validation → List Demand
 joinDemands leaf total seen n mode =
     cond leaf
     (sumFits total n otherwise violationOf mode reason.leafDataBlockTotalOverflow ∷ [])
-    (not (among n seen) otherwise violationOf mode reason.internalChildrenShareABlock ∷ [])
+    (not (isOneOf n seen) otherwise violationOf mode reason.internalChildrenShareABlock ∷ [])
 
 -- this test as a check
 unfoldable pub joinCheck : Bool → ℕ → List ℕ → ℕ → Validation → Check
@@ -81,7 +81,7 @@ recordDemands leaf mode own rest left previous total seen =
 
 -- ---- the walk
 
--- a leaf's total after a record with this number
+-- a leaf's total after a record with this number; an internal page's stays as it is
 abbrev pub nextTotal : Bool → ℕ → ℕ → ℕ
 nextTotal leaf total n = cond leaf (total + n) total
 
@@ -111,14 +111,14 @@ unfoldable pub records : Bool → Validation → Own → List ℕ → ℕ → �
 records leaf mode own rest payloadLength count =
     outcome (sizeDemands rest payloadLength count mode) Number.Refused (walk leaf mode own count rest payloadLength [] 0 [])
 
--- page kind 1 is a leaf, every other is internal; an internal page's total is 0
+-- page kind 1 is a leaf; any other counts as internal
 abbrev pub isLeaf : RecordValidation → Bool
 isLeaf c = eqb (c .«page_kind») 1
 
--- the rules of the page's records
+-- a record's own rules, by the kind of its page
 abbrev pub ownRules : RecordValidation → Own
 ownRules c = cond (isLeaf c) (leafRules c) (childRules c)
 
--- `rest` is the block from byte 80 on
+-- `validate_records`, READING-RULES 8.2: the walk over a page's records, by the rules that its context names; `rest` is the block from byte 80 on
 unfoldable pub validateRecords : List ℕ → ℕ → ℕ → RecordValidation → Number
 validateRecords rest payloadLength count c = records (isLeaf c) (c .mode) (ownRules c) rest payloadLength count

@@ -4,7 +4,7 @@ ghost use mathlib.Core.Bool.{true, false};
 ghost use mathlib.Core.List.{[]};
 ghost use Prim.Native.Nat.{_≤_};
 ghost use lib.ListN.{length, take};
-ghost use Rattle.walk.specs.Records.{leafRules, childRules, among, walk, validateRecords};
+ghost use Rattle.walk.specs.Records.{leafRules, childRules, isOneOf, walk, validateRecords};
 ghost use Rattle.walk.specs.Inside.{formOf, joinOf, turnOf, storedBlocks, Whole, Kept};
 use error::Error;
 use error::Number;
@@ -69,7 +69,7 @@ fn record_form(rest: &[u8], left: usize, previous: &[u8], mode: Validation) -> F
 // Whether a block is one of the first n seen. No early way out: of a valid page's children it is none.
 fn seen_before(seen: &[u64], n: usize, block: u64) -> bool
     requires { ⌜ n ≤ length (now seen) ⌝ }
-    ensures { λ r. ⌜ r ≡ among block (take n (now (seen .entry))) ⌝ }
+    ensures { λ r. ⌜ r ≡ isOneOf block (take n (now (seen .entry))) ⌝ }
 {
     let mut hit = false;
     let mut i = 0;
@@ -83,7 +83,7 @@ fn seen_before(seen: &[u64], n: usize, block: u64) -> bool
 // The same of the first n records themselves: only a payload above the page's has more children than the array holds.
 fn stored_before(rest: &[u8], n: usize, block: u64) -> bool
     requires { ⌜ Whole (now rest) n ⌝ }
-    ensures { λ r. ⌜ r ≡ among block (storedBlocks (now (rest .entry)) n) ⌝ }
+    ensures { λ r. ⌜ r ≡ isOneOf block (storedBlocks (now (rest .entry)) n) ⌝ }
 {
     let mut hit = false;
     let mut position = 0;
@@ -101,7 +101,7 @@ fn stored_before(rest: &[u8], n: usize, block: u64) -> bool
 
 fn is_shared(seen: &[u64], rest: &[u8], n: usize, block: u64) -> bool
     requires { ⌜ Kept (now seen) (now rest) n ⌝ }
-    ensures { λ r. ⌜ r ≡ among block (storedBlocks (now (rest .entry)) n) ⌝ }
+    ensures { λ r. ⌜ r ≡ isOneOf block (storedBlocks (now (rest .entry)) n) ⌝ }
 {
     if n <= 192 {
         return seen_before(seen, n, block);

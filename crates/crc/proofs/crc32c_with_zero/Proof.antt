@@ -4,7 +4,6 @@ use Prim.Native.Nat.{_≤_}
 use native.Mathlib.Omega.{arith}
 use lib.ListN.{length}
 use lib.Seq.{length-take-le}
-use Rattle.crc.specs.Crc.{_⊕_}
 use Rattle.crc.proofs.Parts.{with-zero}
 use borrow.Author.Needs.{needs}
 use Rattle.crc.proofs.crc32c_with_zero.Statement.{statement}
@@ -18,7 +17,6 @@ slice-aggregate-extend-with c =
     sym (length-take-le (l .lesser2 .result) bs h)
 
 returns : tie.Need-returns
-unfolding _⊕_
 returns c = search with-zero
 
 pub crc32c-with-zero-spec : {M : Type 1} → statement M

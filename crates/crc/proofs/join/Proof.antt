@@ -2,8 +2,8 @@
 use mathlib.Core.Path.{_≡_}
 use Prim.Native.Nat.{_-_, _*_, _/_, _^_, _≤_}
 use borrow.Author.Needs.{needs}
-use Rattle.crc.specs.Crc.{_⊕_}
 use Rattle.crc.specs.Inside.{pastLane}
+use Rattle.crc.proofs.Xor.{_⊕_}
 use Rattle.crc.proofs.Lanes.{join-start, join-turn, join-done}
 use Rattle.crc.proofs.join.Statement.{statement}
 use Rattle.crc.proofs.join.Tie as tie

@@ -1,11 +1,9 @@
 use borrow.Author.Needs.{needs}
-use Rattle.crc.specs.Crc.{_⊕_}
 use Rattle.crc.proofs.Parts.{data-unit}
 use Rattle.crc.proofs.unit_sum.Statement.{statement}
 use Rattle.crc.proofs.unit_sum.Tie as tie
 
 returns : tie.Need-returns
-unfolding _⊕_
 returns c = search data-unit
 
 pub unit-sum-spec : {M : Type 1} → statement M

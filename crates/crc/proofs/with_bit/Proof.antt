@@ -2,7 +2,6 @@
 use Prim.Native.Nat.{_/_, _%_, _^_}
 use native.Mathlib.Omega.{arith}
 use borrow.Author.Needs.{needs}
-use Rattle.crc.specs.Crc.{_⊕_}
 use Rattle.crc.proofs.Lanes.{bit-none, bit-one}
 use Rattle.crc.proofs.with_bit.Statement.{statement}
 use Rattle.crc.proofs.with_bit.Tie as tie
@@ -11,7 +10,6 @@ returns : tie.Need-returns
 returns c = bit-none _ _ _ (omega arith)
 
 returns-2 : tie.Need-returns-2
-unfolding _⊕_
 returns-2 c =
     let a = c .before .args in
     bit-one (a .r) (a .crc / 2 ^ a .k % 2) (a .word) (omega arith)

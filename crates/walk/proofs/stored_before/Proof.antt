@@ -8,14 +8,14 @@ use lib.ListN.{length, drop}
 use Rattle.octets.specs.Number.{u16At}
 use Rattle.lookup.specs.Record.{splitRecord, isRecord}
 use Rattle.lookup.specs.Sorted.{offsetOf}
-use Rattle.walk.specs.Records.{among}
+use Rattle.walk.specs.Records.{isOneOf}
 use Rattle.walk.specs.Inside.{storedBlocks}
 use Rattle.walk.proofs.Children.{whole-within, offset-more, stored-more}
 use Rattle.walk.proofs.stored_before.Statement.{statement}
 use Rattle.walk.proofs.stored_before.Tie as tie
 
 abbrev Inv-loop : tie.InvT-loop
-Inv-loop rest n block hit₀ position₀ i₀ hit position i = (i ≤ n) × (position ≡ offsetOf rest i) × (hit ≡ among block (storedBlocks rest i))
+Inv-loop rest n block hit₀ position₀ i₀ hit position i = (i ≤ n) × (position ≡ offsetOf rest i) × (hit ≡ isOneOf block (storedBlocks rest i))
 
 abbrev μ-loop : tie.MeasureT-loop
 μ-loop rest n block hit₀ position₀ i₀ hit position i = n - i
@@ -57,7 +57,7 @@ returns : tie.Need-returns Inv-loop μ-loop
 returns c =
     let l = c .before in
     let e : l .loop .i ≡ l .before .before .args .n = omega arith in
-    l .loop .inv .2 ∙ ap (λ m. among (l .before .before .args .block) (storedBlocks (now (l .before .before .args .rest)) m)) e
+    l .loop .inv .2 ∙ ap (λ m. isOneOf (l .before .before .args .block) (storedBlocks (now (l .before .before .args .rest)) m)) e
 
 pub stored-before-spec : {M : Type 1} → statement M
 stored-before-spec =
