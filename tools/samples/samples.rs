@@ -718,7 +718,8 @@ fn dumps(paper: &str) -> Result<usize, String> {
     for ((file, body), block) in &built {
         let due = bodies[*file].get(*body).ok_or(format!("no body {body}"))?;
         if let Some(at) = (0..BLOCK_BYTES).find(|&at| block[at] != due[at]) {
-            return Err(format!("body {body} of {}: the paper is wrong at {at}", ["volume.readback", "readback.bin"][*file]));
+            let name = ["volume.readback", "readback.bin"][*file];
+            return Err(format!("body {body} of {name}: the paper is wrong at {at}"));
         }
     }
     match (0..bodies[0].len()).find(|&body| !built.contains_key(&(0, body))) {
