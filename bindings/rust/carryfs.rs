@@ -1,5 +1,5 @@
-//! The proved reader of carryfs volumes, for Rust: safe calls over the static library (`rt staticlib exports`). No allocation, no
-//! crates; link with `-L native=target/staticlib -l static=exports`.
+//! The proved reader of carryfs volumes, for Rust: safe calls over the static library (`rt staticlib carryfs`). No allocation, no
+//! crates; link with `-L native=target/staticlib -l static=carryfs`.
 
 mod library;
 
