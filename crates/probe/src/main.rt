@@ -193,7 +193,7 @@ fn refilled(s: Stand, window: &mut [u8], out: &mut [u8]) -> Turn {
     }
 }
 
-fn turn(s: Stand, window: &mut [u8], out: &mut [u8]) -> Turn {
+fn step(s: Stand, window: &mut [u8], out: &mut [u8]) -> Turn {
     match one_call(s.place, octets::span(window, s.at, s.have), out, s.used) {
         Call::Answered { length, end } => behind(s, length, end, out),
         Call::Outside => cut(s.place, out, s.used),
@@ -212,7 +212,7 @@ fn run(window: &mut [u8], out: &mut [u8]) {
     let mut turns: u64 = 0xFFFF_FFFF_FFFF_FFFF;
     while turns > 0 {
         turns -= 1;
-        let Turn::Go(next) = turn(s, window, out) else {
+        let Turn::Go(next) = step(s, window, out) else {
             return;
         };
         s = next;
