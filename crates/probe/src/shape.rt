@@ -60,8 +60,8 @@ const ROWS: [u64; 44] = [
     0x011a_e1b1411,
 ];
 
-fn row_of(call: usize) -> u64 {
-    if call < 44 { ROWS[call] } else { 0 }
+fn row_of(call: u8) -> u64 {
+    if call < 44 { ROWS[call as usize] } else { 0 }
 }
 
 fn most(digit: u64) -> u64 {
@@ -214,7 +214,7 @@ pub fn read_call(input: &[u8], numbers: &mut [u64], texts: &mut [usize]) -> Fron
         return Front::Short;
     }
     let call = input[0];
-    let row = row_of(call as usize);
+    let row = row_of(call);
     if row == 0 {
         return Front::Outside;
     }
