@@ -14,7 +14,11 @@ mod words;
 
 use arguments::Numbers;
 use fields::Fields;
+use libc::STDERR_FILENO;
+use libc::STDIN_FILENO;
 use shape::Front;
+use stream::Next;
+use stream::Read;
 
 // The calls whose fields are a few numbers: those below 20.
 fn few(call: u8, n: Numbers, a: &[u8], b: &[u8]) -> Fields {
@@ -88,43 +92,41 @@ fn line(
 ) -> usize {
     let placed = report::decimal(out, at, place);
     let answered = told(input, numbers, texts, out, placed);
-    let ended = report::put_byte(out, answered, b'\n');
-    output::room(out, ended)
+    report::put_byte(out, answered, b'\n')
 }
 
-// What came of the front of the input.
-enum Turn {
-    Answered { length: usize, used: usize },
+// What came of the front of the input: a call's length and the place behind its line, or that there is none.
+enum Call {
+    Answered { length: usize, end: usize },
     Short,
     Outside,
 }
 
-fn one_call(place: u64, input: &[u8], out: &mut [u8], used: usize) -> Turn {
+fn one_call(place: u64, input: &[u8], out: &mut [u8], used: usize) -> Call {
     let mut numbers = [0u64; 34];
     let mut texts = [0usize; 8];
     match shape::read_call(input, &mut numbers, &mut texts) {
-        Front::Whole(length) => Turn::Answered {
+        Front::Whole(length) => Call::Answered {
             length,
-            used: line(place, input, &numbers, &texts, out, used),
+            end: line(place, input, &numbers, &texts, out, used),
         },
-        Front::Short => Turn::Short,
-        Front::Outside => Turn::Outside,
+        Front::Short => Call::Short,
+        Front::Outside => Call::Outside,
     }
 }
 
-fn cut(place: u64, out: &mut [u8], used: usize) {
-    let whole = report::cut_line(out, used, place);
-    output::flush(out, whole);
+// Where the run stands: the next call's place, where it starts in the window and where what is read ends there, and where the next line
+// starts.
+struct Stand {
+    place: u64,
+    at: usize,
+    have: usize,
+    used: usize,
 }
 
-// The input ends with so many bytes of a call.
-fn last(place: u64, kept: usize, out: &mut [u8]) {
-    if kept == 0 {
-        let whole = report::end_line(out, 0, place);
-        output::flush(out, whole);
-    } else {
-        cut(place, out, 0);
-    }
+enum Turn {
+    Go(Stand),
+    Stop,
 }
 
 fn following(place: u64) -> u64 {
@@ -135,40 +137,96 @@ fn following(place: u64) -> u64 {
     }
 }
 
+fn flush(out: &[u8], used: usize) -> bool {
+    stream::send(out, used, b"probe: writing standard output")
+}
+
+// Behind a call that was answered.
+fn behind(s: Stand, length: usize, end: usize, out: &[u8]) -> Turn {
+    match stream::room(out, end, b"probe: writing standard output") {
+        Next::At(used) => Turn::Go(Stand {
+            place: following(s.place),
+            at: input::moved(s.at, length, s.have),
+            have: s.have,
+            used,
+        }),
+        Next::Stop => Turn::Stop,
+    }
+}
+
+fn cut(place: u64, out: &mut [u8], used: usize) -> Turn {
+    let whole = report::cut_line(out, used, place);
+    flush(out, whole);
+    Turn::Stop
+}
+
+// The input ends with so many bytes of a call.
+fn last(place: u64, kept: usize, out: &mut [u8]) -> Turn {
+    if kept != 0 {
+        return cut(place, out, 0);
+    }
+    let whole = report::end_line(out, 0, place);
+    flush(out, whole);
+    Turn::Stop
+}
+
+fn failed() -> Turn {
+    os::fail(b"probe: reading standard input");
+    Turn::Stop
+}
+
+// Sends the lines that wait, and reads on behind a call that isn't whole.
+fn refilled(s: Stand, window: &mut [u8], out: &mut [u8]) -> Turn {
+    if !flush(out, s.used) {
+        return Turn::Stop;
+    }
+    let kept = input::slide(window, s.at, s.have);
+    match stream::read_behind(STDIN_FILENO, window, kept) {
+        Read::Has(have) => Turn::Go(Stand {
+            place: s.place,
+            at: 0,
+            have,
+            used: 0,
+        }),
+        Read::Failed => failed(),
+        _ => last(s.place, kept, out),
+    }
+}
+
+fn step(s: Stand, window: &mut [u8], out: &mut [u8]) -> Turn {
+    match one_call(s.place, octets::span(window, s.at, s.have), out, s.used) {
+        Call::Answered { length, end } => behind(s, length, end, out),
+        Call::Outside => cut(s.place, out, s.used),
+        Call::Short => refilled(s, window, out),
+    }
+}
+
 // A proved loop has to end, and nothing says that the input does: the turns are counted down from a number that no run uses up.
 fn run(window: &mut [u8], out: &mut [u8]) {
-    let mut done = octets::put(out, 0, b"probe 1\n");
-    let mut place: u64 = 0;
-    let mut at: usize = 0;
-    let mut have: usize = 0;
+    let mut s = Stand {
+        place: 0,
+        at: 0,
+        have: 0,
+        used: octets::put(out, 0, b"probe 1\n"),
+    };
     let mut turns: u64 = 0xFFFF_FFFF_FFFF_FFFF;
     while turns > 0 {
         turns -= 1;
-        match one_call(place, octets::span(window, at, have), out, done) {
-            Turn::Answered { length, used } => {
-                at = input::moved(at, length, have);
-                done = used;
-                place = following(place);
-            }
-            Turn::Outside => {
-                cut(place, out, done);
-                return;
-            }
-            Turn::Short => {
-                done = output::flush(out, done);
-                let kept = input::slide(window, at, have);
-                at = 0;
-                have = input::read_more(window, kept);
-                if have == kept {
-                    last(place, kept, out);
-                    return;
-                }
-            }
-        }
+        let Turn::Go(next) = step(s, window, out) else {
+            return;
+        };
+        s = next;
     }
 }
 
 fn main() {
+    if 1 < os::arg_count() {
+        io::write_all(
+            STDERR_FILENO,
+            b"usage: probe < FILE  (calls on standard input)\n",
+        );
+        return;
+    }
     let mut window = [0u8; 262_144];
     let mut out = [0u8; 65_536];
     run(&mut window, &mut out);

@@ -1,6 +1,5 @@
 // A line is put together in a lent buffer; each function answers the place behind what it wrote.
 use crate::fields::Fields;
-use libc::STDOUT_FILENO;
 
 fn digit(value: u8) -> u8 {
     if value < 10 {
@@ -61,19 +60,4 @@ pub fn numbers(out: &mut [u8], at: usize, values: &[u64], count: usize) -> usize
 pub fn fields(out: &mut [u8], at: usize, told: Fields) -> usize {
     let values = told.values;
     numbers(out, at, &values, told.count)
-}
-
-// Writes what is used, so that nothing is.
-pub fn flush(out: &[u8], used: usize) -> usize {
-    io::write_all(STDOUT_FILENO, octets::span(out, 0, used));
-    0
-}
-
-// Keeps half of the buffer free: a line takes less.
-pub fn room(out: &[u8], used: usize) -> usize {
-    if out.len() / 2 < used {
-        flush(out, used)
-    } else {
-        used
-    }
 }

@@ -1,6 +1,4 @@
-// The numbers and strings of a call, and their limits. A letter stands for each:
-// n any number, w below 2^32, s at most 65,535, b at most 255, f 0 or 1, k 1 to 4, z at most 1,000,000, e at most 4,096;
-// t a string of at most 80,000 bytes, u one of 16 bytes, l one of 255; `.` none.
+// The numbers and strings of a call, and their limits.
 
 // What stands at the front of the input.
 pub enum Front {
@@ -12,34 +10,84 @@ pub enum Front {
     Outside,
 }
 
-fn least(letter: u8) -> u64 {
-    if letter == b'k' { 1 } else { 0 }
+// A row for each call from 0 on, 0 where there is none. A row is read from the right: seven digits for the numbers, then four for the
+// strings, 0 for none. A number's digit says its limit: 1 none, 2 below 2^32, 3 at most 65,535, 4 from 1 to 4, 6 at most 1,000,000,
+// b at most 255, e at most 4,096, f 0 or 1. A string's says its length: 1 at most 80,000 bytes, a 16 bytes, c 255 bytes.
+const ROWS: [u64; 44] = [
+    0x0000_0000000,
+    0x0001_0000002,
+    0x0001_0000000,
+    0x0001_0000011,
+    0x0000_0000062,
+    0x001a_0000011,
+    0x0001_0000000,
+    0x0001_0000000,
+    0x0001_0000031,
+    0x0001_0000031,
+    0x0001_0000031,
+    0x0011_0000000,
+    0x0000_0000011,
+    0x0000_0000011,
+    0x0000_0000011,
+    0x0000_0000011,
+    0x0000_0000001,
+    0x0000_000f111,
+    0x0000_00f1411,
+    0x0000_0000f11,
+    0x0000_0000f21,
+    0x0000_00000f1,
+    0x0001_000000f,
+    0x0001_00000f1,
+    0x0001_000000f,
+    0x0011_00000f1,
+    0x0011_000000f,
+    0x0011_000f114,
+    0x0011_000f114,
+    0x0011_0000114,
+    0x0001_0000001,
+    0x0001_0000000,
+    0x0001_0000000,
+    0x0001_0000000,
+    0x0001_0000011,
+    0x0011_0001111,
+    0x001a_01b1411,
+    0x001a_00b1411,
+    0x0001_0000000,
+    0x0011_00003e1,
+    0x0001_0000001,
+    0xcaca_0000000,
+    0x0001_11f11b4,
+    0x011a_e1b1411,
+];
+
+fn row_of(call: u8) -> u64 {
+    if call < 44 { ROWS[call as usize] } else { 0 }
 }
 
-fn most(letter: u8) -> u64 {
-    match letter {
-        b'w' => 0xFFFF_FFFF,
-        b's' => 65_535,
-        b'b' => 255,
-        b'f' => 1,
-        b'k' => 4,
-        b'z' => 1_000_000,
-        b'e' => 4_096,
+fn most(digit: u64) -> u64 {
+    match digit {
+        2 => 0xFFFF_FFFF,
+        3 => 65_535,
+        4 => 4,
+        6 => 1_000_000,
+        0xb => 255,
+        0xe => 4_096,
+        0xf => 1,
         _ => 0xFFFF_FFFF_FFFF_FFFF,
     }
 }
 
-fn is_allowed(letter: u8, value: u64) -> bool {
-    if value < least(letter) {
-        return false;
+fn is_allowed(digit: u64, value: u64) -> bool {
+    if value == 0 {
+        return digit != 4;
     }
-    value <= most(letter)
+    value <= most(digit)
 }
 
-fn is_allowed_length(letter: u8, length: usize) -> bool {
-    match letter {
-        b'u' => length == 16,
-        b'l' => length == 255,
+fn is_allowed_length(digit: u64, length: usize) -> bool {
+    match digit {
+        0xa => length == 16,
+        0xc => length == 255,
         _ => length <= 80_000,
     }
 }
@@ -56,39 +104,8 @@ fn keep_place(texts: &mut [usize], i: usize, place: usize) {
     }
 }
 
-// A number at a place of the input.
-fn read_number(letter: u8, input: &[u8], at: usize) -> Front {
-    if letter == b'.' {
-        return Front::Whole(at);
-    }
-    if input.len() < 8 {
-        return Front::Short;
-    }
-    if input.len() - 8 < at {
-        return Front::Short;
-    }
-    if !is_allowed(letter, octets::u64_at(input, at)) {
-        return Front::Outside;
-    }
-    Front::Whole(at + 8)
-}
-
-// The place behind the length of a string.
-fn read_length(letter: u8, input: &[u8], at: usize) -> Front {
-    if input.len() < 4 {
-        return Front::Short;
-    }
-    if input.len() - 4 < at {
-        return Front::Short;
-    }
-    if !is_allowed_length(letter, octets::u32_at(input, at) as usize) {
-        return Front::Outside;
-    }
-    Front::Whole(at + 4)
-}
-
-// The place behind the string of `length` bytes.
-fn read_body(input: &[u8], at: usize, length: usize) -> Front {
+// The place behind so many bytes from a place of the input on.
+fn read_bytes(input: &[u8], at: usize, length: usize) -> Front {
     if input.len() < length {
         return Front::Short;
     }
@@ -98,41 +115,55 @@ fn read_body(input: &[u8], at: usize, length: usize) -> Front {
     Front::Whole(at + length)
 }
 
-fn read_numbers(letters: &[u8], input: &[u8], numbers: &mut [u64]) -> Front {
-    let mut at = 1;
-    for i in 0..letters.len() {
-        let front = read_number(letters[i], input, at);
-        let Front::Whole(end) = front else {
-            return front;
-        };
-        keep(numbers, i, octets::u64_at(input, at));
-        at = end;
+fn read_number(digit: u64, input: &[u8], at: usize) -> Front {
+    let front = read_bytes(input, at, 8);
+    let Front::Whole(_) = front else {
+        return front;
+    };
+    if !is_allowed(digit, octets::u64_at(input, at)) {
+        return Front::Outside;
     }
-    Front::Whole(at)
+    front
 }
 
-// Keeps the start and the end of each string, one behind the other.
-fn read_texts(letters: &[u8], input: &[u8], start: usize, texts: &mut [usize]) -> Front {
+// The place behind the length of a string.
+fn read_length(digit: u64, input: &[u8], at: usize) -> Front {
+    let front = read_bytes(input, at, 4);
+    let Front::Whole(_) = front else {
+        return front;
+    };
+    if !is_allowed_length(digit, octets::u32_at(input, at) as usize) {
+        return Front::Outside;
+    }
+    front
+}
+
+// The numbers from a place on; the first of a call stands at 1.
+fn read_numbers(digits: u64, input: &[u8], start: usize, numbers: &mut [u64]) -> Front {
     let mut at = start;
-    for i in 0..letters.len() {
-        let front = read_text(letters[i], input, at, texts, i);
+    let mut rest = digits;
+    while rest > 0 {
+        let front = read_number(rest % 16, input, at);
         let Front::Whole(end) = front else {
             return front;
         };
+        keep(numbers, at / 8, octets::u64_at(input, at));
         at = end;
+        rest = rest / 16;
     }
     Front::Whole(at)
 }
 
-fn read_text(letter: u8, input: &[u8], at: usize, texts: &mut [usize], i: usize) -> Front {
-    if letter == b'.' {
+// Keeps the start and the end of string i, one behind the other.
+fn read_text(digit: u64, input: &[u8], at: usize, texts: &mut [usize], i: usize) -> Front {
+    if digit == 0 {
         return Front::Whole(at);
     }
-    let front = read_length(letter, input, at);
+    let front = read_length(digit, input, at);
     let Front::Whole(start) = front else {
         return front;
     };
-    let body = read_body(input, start, octets::u32_at(input, at) as usize);
+    let body = read_bytes(input, start, octets::u32_at(input, at) as usize);
     let Front::Whole(end) = body else {
         return body;
     };
@@ -143,91 +174,38 @@ fn read_text(letter: u8, input: &[u8], at: usize, texts: &mut [usize], i: usize)
     body
 }
 
-// The letters of a call's numbers: calls 1 to 19.
-fn numbers_first(call: u8) -> [u8; 7] {
-    match call {
-        1 => *b"w......",
-        4 => *b"wz.....",
-        8..=10 => *b"ns.....",
-        16 => *b"n......",
-        17 => *b"nnnf...",
-        18 => *b"nnknf..",
-        19 => *b"nnf....",
-        2 | 6 | 7 | 11 => *b".......",
-        _ => *b"nn.....",
+fn read_texts(digits: u64, input: &[u8], start: usize, texts: &mut [usize]) -> Front {
+    let mut at = start;
+    let mut rest = digits;
+    for i in 0..4 {
+        let front = read_text(rest % 16, input, at, texts, i);
+        let Front::Whole(end) = front else {
+            return front;
+        };
+        at = end;
+        rest = rest / 16;
     }
+    Front::Whole(at)
 }
 
-// Calls 20 to 29.
-fn numbers_second(call: u8) -> [u8; 7] {
-    match call {
-        20 => *b"nwf....",
-        21 | 23 | 25 => *b"nf.....",
-        27 | 28 => *b"knnf...",
-        29 => *b"knn....",
-        _ => *b"f......",
-    }
-}
-
-// The calls from 30 on; call 41 has more.
-fn numbers_third(call: u8) -> [u8; 7] {
-    match call {
-        30 | 40 => *b"n......",
-        34 => *b"nn.....",
-        35 => *b"nnnn...",
-        36 => *b"nnknbn.",
-        37 => *b"nnknb..",
-        39 => *b"nes....",
-        42 => *b"kbnnfnn",
-        43 => *b"nnknbne",
-        _ => *b".......",
-    }
-}
-
-fn numbers_of(call: u8) -> [u8; 7] {
-    if call < 20 {
-        numbers_first(call)
-    } else if call < 30 {
-        numbers_second(call)
-    } else {
-        numbers_third(call)
-    }
-}
-
-// The letters of a call's strings.
-fn texts_of(call: u8) -> [u8; 4] {
-    match call {
-        4 | 12..=21 => *b"....",
-        5 | 36 | 37 => *b"ut..",
-        11 | 25..=29 | 35 | 39 => *b"tt..",
-        41 => *b"ulul",
-        43 => *b"utt.",
-        _ => *b"t...",
-    }
-}
-
-fn is_known(call: u8) -> bool {
-    match call {
-        1..=43 => true,
-        _ => false,
-    }
-}
-
-fn read_front(call: u8, input: &[u8], numbers: &mut [u64]) -> Front {
-    if call == 41 {
-        return read_numbers(b"ffbnnnnnnnnnnnnnnffbnnnnnnnnnnnnnn", input, numbers);
-    }
-    let letters = numbers_of(call);
-    read_numbers(&letters, input, numbers)
-}
-
-fn read_known(call: u8, input: &[u8], numbers: &mut [u64], texts: &mut [usize]) -> Front {
-    let front = read_front(call, input, numbers);
-    let Front::Whole(end) = front else {
-        return front;
+// The 34 numbers of call 41: present, has label, label length and 14 more, for each of two roots.
+fn read_roots(input: &[u8], numbers: &mut [u64]) -> Front {
+    let first = read_numbers(0x1111_1111_1111_1bff, input, 1, numbers);
+    let Front::Whole(at) = first else {
+        return first;
     };
-    let strings = texts_of(call);
-    read_texts(&strings, input, end, texts)
+    let second = read_numbers(0x1111_1111_1111_bff1, input, at, numbers);
+    let Front::Whole(behind) = second else {
+        return second;
+    };
+    read_numbers(0x11, input, behind, numbers)
+}
+
+fn read_front(call: u8, row: u64, input: &[u8], numbers: &mut [u64]) -> Front {
+    if call == 41 {
+        return read_roots(input, numbers);
+    }
+    read_numbers(row % 0x1000_0000, input, 1, numbers)
 }
 
 // The call at the front of the input: its numbers and where its strings stand.
@@ -236,8 +214,13 @@ pub fn read_call(input: &[u8], numbers: &mut [u64], texts: &mut [usize]) -> Fron
         return Front::Short;
     }
     let call = input[0];
-    if !is_known(call) {
+    let row = row_of(call);
+    if row == 0 {
         return Front::Outside;
     }
-    read_known(call, input, numbers, texts)
+    let front = read_front(call, row, input, numbers);
+    let Front::Whole(end) = front else {
+        return front;
+    };
+    read_texts(row / 0x1000_0000, input, end, texts)
 }

@@ -1,104 +1,102 @@
 // Reads roots and pages from standard input and says of each what the reader answers. Document 01, "The program readback".
+use libc::STDERR_FILENO;
 use libc::STDIN_FILENO;
-use libc::STDOUT_FILENO;
+use stream::Filled;
+use stream::Next;
 
-// What came of one body: the place behind its line, or that the program stops there.
-enum Turn {
+// What came of one body: the place behind its line, or why there is none.
+enum Body {
     Answered(usize),
     Cut,
     End,
+    Failed,
 }
 
-// A body of so many bytes is read whole, or cut.
-fn read_body(body: &mut [u8]) -> bool {
-    let n = io::read_full(STDIN_FILENO, body);
-    n == body.len()
-}
-
-fn root_turn(number: u64, out: &mut [u8], at: usize) -> Turn {
+fn root_turn(number: u64, out: &mut [u8], at: usize) -> Body {
     let mut body = [0u8; body::ROOT_BODY_BYTES];
-    if !read_body(&mut body) {
-        return Turn::Cut;
+    match stream::fill(STDIN_FILENO, &mut body) {
+        Filled::Whole => Body::Answered(body::root_body_line(out, at, number, &body)),
+        Filled::Ended(_) => Body::Cut,
+        Filled::Failed => Body::Failed,
     }
-    Turn::Answered(body::root_body_line(out, at, number, &body))
 }
 
-fn page_turn(number: u64, out: &mut [u8], at: usize) -> Turn {
+fn page_line(number: u64, out: &mut [u8], at: usize, body: &[u8]) -> Body {
+    if !body::names_a_tree(body) {
+        return Body::Cut;
+    }
+    Body::Answered(body::page_body_line(out, at, number, body))
+}
+
+fn page_turn(number: u64, out: &mut [u8], at: usize) -> Body {
     let mut body = [0u8; body::PAGE_BODY_BYTES];
-    if !read_body(&mut body) {
-        return Turn::Cut;
+    match stream::fill(STDIN_FILENO, &mut body) {
+        Filled::Whole => page_line(number, out, at, &body),
+        Filled::Ended(_) => Body::Cut,
+        Filled::Failed => Body::Failed,
     }
-    if !body::names_a_tree(&body) {
-        return Turn::Cut;
-    }
-    Turn::Answered(body::page_body_line(out, at, number, &body))
 }
 
-fn one_body(number: u64, out: &mut [u8], at: usize) -> Turn {
-    let mut kind = [0u8; 1];
-    if !read_body(&mut kind) {
-        return Turn::End;
-    }
-    match octets::byte_at(&kind, 0) {
+fn body_of_kind(kind: u8, number: u64, out: &mut [u8], at: usize) -> Body {
+    match kind {
         1 => root_turn(number, out, at),
         2 => page_turn(number, out, at),
-        _ => Turn::Cut,
+        _ => Body::Cut,
     }
 }
 
-fn held(out: &[u8], used: usize) -> &[u8] {
-    octets::span(out, 0, used)
-}
-
-fn flush(out: &[u8], used: usize) -> usize {
-    io::write_all(STDOUT_FILENO, held(out, used));
-    0
-}
-
-// Keeps half of the buffer free: a line takes less.
-fn room(out: &[u8], used: usize) -> usize {
-    if out.len() / 2 < used {
-        flush(out, used)
-    } else {
-        used
+fn one_body(number: u64, out: &mut [u8], at: usize) -> Body {
+    let mut kind = [0u8; 1];
+    match stream::fill(STDIN_FILENO, &mut kind) {
+        Filled::Whole => body_of_kind(octets::byte_at(&kind, 0), number, out, at),
+        Filled::Ended(_) => Body::End,
+        Filled::Failed => Body::Failed,
     }
 }
 
-fn following(number: u64) -> u64 {
-    if number < 0xFFFF_FFFF_FFFF_FFFF {
-        number + 1
-    } else {
-        number
-    }
+fn last(out: &[u8], used: usize) -> Next {
+    stream::send(out, used, b"readback: writing standard output");
+    Next::Stop
 }
 
-// A proved loop has to end, and nothing says that the input does: the turns are counted down from a number that no run uses up.
-fn run(out: &mut [u8]) {
-    let mut used = report::head_line(out, 0);
-    let mut number: u64 = 0;
-    let mut turns: u64 = 0xFFFF_FFFF_FFFF_FFFF;
-    while turns > 0 {
-        turns -= 1;
-        match one_body(number, out, used) {
-            Turn::Answered(place) => {
-                used = room(out, place);
-                number = following(number);
-            }
-            Turn::Cut => {
-                used = report::cut_line(out, used, number);
-                flush(out, used);
-                return;
-            }
-            Turn::End => {
-                used = report::end_line(out, used, number);
-                flush(out, used);
-                return;
-            }
+// A body's line, or the last one; none where a read failed.
+fn turn(number: u64, out: &mut [u8], at: usize) -> Next {
+    match one_body(number, out, at) {
+        Body::Answered(place) => stream::room(out, place, b"readback: writing standard output"),
+        Body::Cut => {
+            let whole = report::cut_line(out, at, number);
+            last(out, whole)
+        }
+        Body::End => {
+            let whole = report::end_line(out, at, number);
+            last(out, whole)
+        }
+        Body::Failed => {
+            os::fail(b"readback: reading standard input");
+            last(out, at)
         }
     }
 }
 
+// A proved loop has to end, and nothing says that the input does: no run comes to the last number.
+fn run(out: &mut [u8]) {
+    let mut used = report::head_line(out, 0);
+    for number in 0..0xFFFF_FFFF_FFFF_FFFF {
+        let Next::At(place) = turn(number, out, used) else {
+            return;
+        };
+        used = place;
+    }
+}
+
 fn main() {
+    if 1 < os::arg_count() {
+        io::write_all(
+            STDERR_FILENO,
+            b"usage: readback < FILE  (bodies on standard input; tools/readback FILE.. reads files)\n",
+        );
+        return;
+    }
     let mut out = [0u8; 65_536];
     run(&mut out);
 }
