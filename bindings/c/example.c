@@ -1,9 +1,10 @@
 /*
  * Reads the blocks of a file, chooses between its first two roots, and prints what it finds.
  *
- *   example FILE    the form of README.md: a byte of kind, the numbers that the block is read with, and the block
+ *   example FILE [DATA]    FILE in the form of README.md: a byte of kind, the numbers that the block is read with, the block.
+ *                          DATA: the first unit of a file of the volume, at most 65,536 bytes, held to the stored checksums
  *
- * Exit status 0 if the file was read to its end and a root was chosen, 1 if not, 2 if there is no file to read.
+ * Exit status 0 if the file was read to its end and a root was chosen, 1 if not, 2 if there is nothing to read.
  */
 #include <inttypes.h>
 #include <stdio.h>
@@ -17,6 +18,7 @@
 #define ROOT_BODY (8 + 8 + BLOCK)
 #define PAGE_BODY (8 + 8 + UUID + 1 + 8 + 1 + 8 + BLOCK)
 #define CHECKSUM_GROUP 4 /* the ninth byte of a catalog key */
+#define UNIT 65536
 
 /* A root block, and the numbers that it is read with. */
 struct root {
@@ -25,6 +27,11 @@ struct root {
     uint64_t blocks;
 };
 
+/* The data to check, if any. */
+static uint8_t data[UNIT + 1];
+static size_t data_length;
+
+/* Little-endian, as numbers are stored; keys are big-endian, so that they are ordered by their bytes. */
 static uint64_t number(const uint8_t *bytes)
 {
     uint64_t n = 0;
@@ -34,8 +41,16 @@ static uint64_t number(const uint8_t *bytes)
     return n;
 }
 
-/* A status other than CARRYFS_DONE is a fault of this program: it never lends too little room. But for one: a kind of tree that
- * isn't there comes from the file. */
+static uint64_t key_number(const uint8_t *bytes)
+{
+    uint64_t n = 0;
+    int i;
+    for (i = 0; i < 8; i++)
+        n = n << 8 | bytes[i];
+    return n;
+}
+
+/* Another status than CARRYFS_DONE is a mistake in this program, since it always lends room enough. */
 static void must(uint32_t status, const char *call)
 {
     if (status == CARRYFS_DONE)
@@ -82,10 +97,23 @@ static void read_root(const struct root *root)
            out[CARRYFS_ROOT_FREE_BLOCKS]);
 }
 
-/* The slots of a checksum group: each that is there holds the word of a data unit (carryfs_data_unit). */
-static void read_group(const uint8_t *key, size_t key_length, const uint8_t *value, size_t value_length)
+/* Whether the data is the unit that the word was made of. */
+static void check_unit(const uint8_t *uuid, uint64_t object, uint64_t unit, uint64_t word)
+{
+    uint64_t out[CARRYFS_UNIT_WORDS];
+    must(carryfs_data_unit(uuid, UUID, object, unit, data, data_length, out, CARRYFS_UNIT_WORDS), "carryfs_data_unit");
+    printf("    the data as unit %" PRIu64 " of object %" PRIu64 ": ", unit, object);
+    if (refused(out))
+        return;
+    printf("%s\n", out[CARRYFS_UNIT_WORD] == word ? "the word fits" : "the word doesn't fit");
+}
+
+/* The slots of a checksum group, as it is stored: each that is there holds the word of a data unit. A page that is accepted has
+ * only valid groups; the call is for one that comes from elsewhere. */
+static void read_group(const uint8_t *uuid, const uint8_t *key, size_t key_length, const uint8_t *value, size_t value_length)
 {
     uint64_t out[CARRYFS_GROUP_WORDS];
+    uint64_t word[CARRYFS_SLOT_WORDS];
     size_t slot;
     must(carryfs_group(key, key_length, value, value_length, out, CARRYFS_GROUP_WORDS), "carryfs_group");
     printf("    checksum group: ");
@@ -93,20 +121,22 @@ static void read_group(const uint8_t *key, size_t key_length, const uint8_t *val
         return;
     printf("valid");
     for (slot = 0; slot < 256; slot++) {
-        uint64_t word[CARRYFS_SLOT_WORDS];
         must(carryfs_slot(value, value_length, slot, word, CARRYFS_SLOT_WORDS), "carryfs_slot");
         if (word[CARRYFS_SLOT_CLASS] == 0 && word[CARRYFS_SLOT_PRESENT])
-            printf(", unit %lu is %08" PRIx64, (unsigned long)slot, word[CARRYFS_SLOT_WORD]);
+            printf(", slot %lu is %08" PRIx64, (unsigned long)slot, word[CARRYFS_SLOT_WORD]);
     }
     printf("\n");
+    must(carryfs_slot(value, value_length, 0, word, CARRYFS_SLOT_WORDS), "carryfs_slot");
+    if (data_length > 0 && key_number(key + 9) == 0 && word[CARRYFS_SLOT_CLASS] == 0 && word[CARRYFS_SLOT_PRESENT])
+        check_unit(uuid, key_number(key), 0, word[CARRYFS_SLOT_WORD]);
 }
 
-/* The records of an accepted page, in order, and the first of them sought by its own key. */
-static void read_records(const uint8_t *payload, size_t length, size_t count, uint32_t kind, uint64_t level)
+/* The records of an accepted page, in order, and the last of them sought by its key. */
+static void read_records(const uint8_t *payload, size_t length, size_t count, const uint8_t *uuid, int groups)
 {
     uint64_t out[CARRYFS_NEXT_WORDS];
     uint64_t found[CARRYFS_FLOOR_WORDS];
-    uint16_t scratch[1024]; /* more than the records of any page: each has at least 4 bytes */
+    uint16_t scratch[1024]; /* enough for every page: it has 4,016 bytes of records, and each takes at least 5 */
     const uint8_t *part = payload;
     const uint8_t *last = payload;
     size_t remaining = count;
@@ -122,8 +152,8 @@ static void read_records(const uint8_t *payload, size_t length, size_t count, ui
         printf("  key ");
         print_hex(part + key, key_end - key);
         printf(", a value of %lu bytes\n", (unsigned long)(end - key_end));
-        if (kind == CARRYFS_CATALOG && level == 0 && part[key + 8] == CHECKSUM_GROUP)
-            read_group(part + key, key_end - key, part + key_end, end - key_end);
+        if (groups && part[key + 8] == CHECKSUM_GROUP)
+            read_group(uuid, part + key, key_end - key, part + key_end, end - key_end);
         last = part + key;
         last_length = key_end - key;
         part += end;
@@ -158,7 +188,7 @@ static int read_page(const uint8_t *body)
         return 1;
     printf("level %" PRIu64 ", %" PRIu64 " records\n", out[CARRYFS_PAGE_LEVEL], out[CARRYFS_PAGE_COUNT]);
     read_records(block + out[CARRYFS_PAGE_PAYLOAD], (size_t)out[CARRYFS_PAGE_PAYLOAD_LENGTH],
-                 (size_t)out[CARRYFS_PAGE_COUNT], kind, out[CARRYFS_PAGE_LEVEL]);
+                 (size_t)out[CARRYFS_PAGE_COUNT], body + 16, kind == CARRYFS_CATALOG && out[CARRYFS_PAGE_LEVEL] == 0);
     return 1;
 }
 
@@ -209,21 +239,36 @@ static int choose(const struct root *a, const struct root *b)
     return 1;
 }
 
+static FILE *open_file(const char *name)
+{
+    FILE *file = fopen(name, "rb");
+    if (!file) {
+        perror(name);
+        exit(2);
+    }
+    return file;
+}
+
 int main(int count, char **words)
 {
     static struct root roots[2];
     int found = 0;
     int whole;
     FILE *file;
-    if (count != 2) {
-        fprintf(stderr, "usage: example FILE\n");
+    if (count != 2 && count != 3) {
+        fprintf(stderr, "usage: example FILE [DATA]\n");
         return 2;
     }
-    file = fopen(words[1], "rb");
-    if (!file) {
-        perror(words[1]);
-        return 2;
+    if (count == 3) {
+        file = open_file(words[2]);
+        data_length = fread(data, 1, UNIT + 1, file);
+        fclose(file);
+        if (data_length == 0 || data_length > UNIT) {
+            fprintf(stderr, "%s: not 1 to 65536 bytes\n", words[2]);
+            return 2;
+        }
     }
+    file = open_file(words[1]);
     whole = read_bodies(file, roots, &found);
     fclose(file);
     if (!whole)
