@@ -36,9 +36,13 @@ fn library_given(folder: PathBuf) -> PathBuf {
 
 fn library_of_repository(top: &Path) -> PathBuf {
     let folder = top.join("target/staticlib");
-    let help = "build it with `rt staticlib carryfs` at the top of the repository, or name its folder in CARRYFS_LIB_DIR";
+    let help =
+        "build it with `rt staticlib carryfs` at the top of the repository, or name its folder in CARRYFS_LIB_DIR";
     if !top.join("crates.txt").is_file() {
-        fail(&format!("no {LIBRARY}: {} isn't the project's repository; name its folder in CARRYFS_LIB_DIR", top.display()));
+        fail(&format!(
+            "no {LIBRARY}: {} isn't the project's repository; name its folder in CARRYFS_LIB_DIR",
+            top.display()
+        ));
     }
     match Command::new("rt").args(["staticlib", "carryfs"]).current_dir(top).output() {
         Ok(output) if output.status.success() => {}

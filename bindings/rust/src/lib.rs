@@ -135,9 +135,8 @@ pub fn checksum_slot(group: &[u8], slot: usize) -> Result<Option<u32>, Refusal> 
 pub fn validate_checksum_group(key: &[u8], value: &[u8]) -> Result<(), Refusal> {
     let mut out = [0; CARRYFS_GROUP_WORDS];
     // Safe: the slices live for the call; the function writes `out` within its length and nothing else.
-    let status = unsafe {
-        carryfs_group(key.as_ptr(), key.len(), value.as_ptr(), value.len(), out.as_mut_ptr(), out.len())
-    };
+    let status =
+        unsafe { carryfs_group(key.as_ptr(), key.len(), value.as_ptr(), value.len(), out.as_mut_ptr(), out.len()) };
     accepted(status, &out)
 }
 

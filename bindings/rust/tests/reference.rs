@@ -58,7 +58,14 @@ mod beside {
                 root.label.as_ref().map(|label| (label.as_str().to_string(), label.as_bytes().to_vec())),
                 root.uuid,
                 trees.map(|tree| (tree.block, tree.generation)),
-                [root.generation, root.blocks, root.next_object, root.free_blocks, root.next_job, root.workspace_cursor],
+                [
+                    root.generation,
+                    root.blocks,
+                    root.next_object,
+                    root.free_blocks,
+                    root.next_job,
+                    root.workspace_cursor,
+                ],
             )
         }};
     }

@@ -35,9 +35,10 @@ fn line(body: Body) -> String {
 
 #[test]
 fn samples_are_answered_as_readback_answers() {
-    for (file, lines) in
-        [(VOLUME, include_str!("../../../samples/volume.txt")), (READBACK, include_str!("../../../samples/readback.txt"))]
-    {
+    for (file, lines) in [
+        (VOLUME, include_str!("../../../samples/volume.txt")),
+        (READBACK, include_str!("../../../samples/readback.txt")),
+    ] {
         let bodies = bodies(file);
         let mut ours = String::from("readback 1\n");
         for (number, &body) in bodies.iter().enumerate() {
