@@ -186,7 +186,7 @@ static int read_page(const uint8_t *body)
     must(status, "carryfs_page");
     if (refused(out))
         return 1;
-    printf("level %" PRIu64 ", %" PRIu64 " records\n", out[CARRYFS_PAGE_LEVEL], out[CARRYFS_PAGE_COUNT]);
+    printf("level %" PRIu64 ", records: %" PRIu64 "\n", out[CARRYFS_PAGE_LEVEL], out[CARRYFS_PAGE_COUNT]);
     read_records(block + out[CARRYFS_PAGE_PAYLOAD], (size_t)out[CARRYFS_PAGE_PAYLOAD_LENGTH],
                  (size_t)out[CARRYFS_PAGE_COUNT], body + 16, kind == CARRYFS_CATALOG && out[CARRYFS_PAGE_LEVEL] == 0);
     return 1;

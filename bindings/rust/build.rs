@@ -67,7 +67,8 @@ fn library_of_repository(top: &Path) -> PathBuf {
 
 /// Writes OUT_DIR/reference.rs, the reference's three files as modules, and sets the cfg `reference`.
 fn reference(top: &Path) {
-    println!("cargo::rustc-check-cfg=cfg(reference)");
+    // MODULE is a name in the reference's text.
+    println!("cargo::rustc-check-cfg=cfg(reference, MODULE)");
     let folder = given("CARRYFS_SRC").unwrap_or_else(|| top.join("../shared/docs/src")).join("ondisk/src");
     let Ok(folder) = folder.canonicalize() else { return };
     let mut text = String::new();

@@ -97,7 +97,7 @@ fn one_of_two_roots_is_selected() {
     assert_eq!(Root::select(slotless, revised), refused(2, 14));
     assert_eq!(Root::select(revised, slotless), refused(4, 0));
     assert_eq!(Root::select(bad, RootBlock { blocks: 1023, ..old }), refused(1, 0));
-    // Another volume: the UUID is bytes 288 to 303, and the word at the end has to fit.
+    // A root of another volume: another UUID, and the checksum at the end made to fit.
     let mut bytes = new.bytes.to_vec();
     let at = bytes.windows(16).position(|part| part == decode(new).expect("a root").uuid).expect("the UUID");
     bytes[at] ^= 1;
@@ -180,17 +180,20 @@ fn refusals_have_a_text() {
 #[test]
 fn the_numbers_are_the_headers() {
     let header = include_str!("../../../include/carryfs.h");
-    let mut due: Vec<(&str, usize)> = header
+    let due: Vec<(&str, usize)> = header
         .lines()
         .filter_map(|line| {
             let mut words = line.strip_prefix("#define ")?.split_whitespace();
             Some((words.next()?, words.next()?.trim_end_matches('u').parse().ok()?))
         })
         .collect();
-    let mut ours = library::NUMBERS.to_vec();
-    due.sort();
-    ours.sort();
-    assert_eq!(ours, due);
+    let ours = library::NUMBERS;
+    let only = |a: &[(&str, usize)], b: &[(&str, usize)]| {
+        format!("{:?}", a.iter().filter(|n| !b.contains(n)).collect::<Vec<_>>())
+    };
+    assert_eq!(only(ours, &due), "[]", "not in the header");
+    assert_eq!(only(&due, ours), "[]", "not in the binding");
+    assert!(!due.is_empty());
 }
 
 /// Without room nothing is written, and with more than enough the rest is left.

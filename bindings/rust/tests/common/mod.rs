@@ -66,7 +66,7 @@ pub fn group(slots: &[usize]) -> ([u8; 1056], Vec<u8>) {
     let mut group = [0; 1056];
     for &slot in slots {
         group[slot / 8] |= 1 << (slot % 8);
-        group[32 + 4 * slot..36 + 4 * slot].copy_from_slice(&(0x0102_0304 * slot as u32 + 5).to_le_bytes());
+        group[32 + 4 * slot..36 + 4 * slot].copy_from_slice(&(0x0002_0304 * slot as u32 + 5).to_le_bytes());
     }
     let stored = slots.iter().max().map_or(32, |last| 36 + 4 * last);
     (group, group[..stored].to_vec())
