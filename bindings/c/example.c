@@ -63,10 +63,10 @@ static void must(uint32_t status, const char *call)
 /* Class and reason are the first two words of every answer that can be a refusal. */
 static int refused(const uint64_t *out)
 {
-    static const char *const names[] = {"accepted", "geometry", "input", "corrupt", "unsupported", "name", "too long"};
+    static const char *const names[] = {"accepted", "geometry", "input", "corrupt", "unsupported"};
     if (out[0] == 0)
         return 0;
-    printf("refused: %s, reason %" PRIu64 "\n", out[0] < 7 ? names[out[0]] : "?", out[1]);
+    printf("refused: %s, reason %" PRIu64 "\n", out[0] < 5 ? names[out[0]] : "?", out[1]);
     return 1;
 }
 

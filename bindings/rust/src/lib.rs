@@ -32,7 +32,7 @@ use library::*;
 /// Why something is refused. docs/REASONS.md has the reasons; classes 1 and 4, and the length of a data unit, carry reason 0.
 #[derive(Clone, Copy, Debug, PartialEq, Eq, Hash)]
 pub struct Refusal {
-    /// 1 geometry, 2 input, 3 corrupt, 4 unsupported, 5 name, 6 too long; [`Refusal::NO_ANSWER`].
+    /// 1 geometry, 2 input (the caller's arguments), 3 corrupt, 4 unsupported; [`Refusal::NO_ANSWER`].
     pub class: u16,
     pub reason: u16,
 }
@@ -49,8 +49,6 @@ impl Refusal {
             2 => "input",
             3 => "corrupt",
             4 => "unsupported",
-            5 => "name",
-            6 => "too long",
             Self::NO_ANSWER => "no answer of the library",
             _ => "an unknown class",
         }

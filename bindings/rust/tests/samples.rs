@@ -170,8 +170,7 @@ fn refusals_have_a_text() {
     assert_eq!(text(2, 14), "refused as input, reason 14");
     assert_eq!(text(3, 24), "refused as corrupt, reason 24");
     assert_eq!(text(4, 0), "refused as unsupported, reason 0");
-    assert_eq!(text(5, 0), "refused as name, reason 0");
-    assert_eq!(text(6, 0), "refused as too long, reason 0");
+    assert_eq!(text(5, 1), "refused as an unknown class, reason 1");
     let error: Box<dyn std::error::Error> = Box::new(Refusal { class: Refusal::NO_ANSWER, reason: 1 });
     assert_eq!(error.to_string(), "refused as no answer of the library, reason 1");
 }

@@ -7,6 +7,7 @@ use mathlib.Core.List.{List}
 use lib.Dec.{leb, eqb}
 use lib.IntN.{ℤ}
 use Rattle.error.specs.declared.Validation.{Validation}
+use Rattle.error.specs.declared.Validation.the-variants.{Input, Disk}
 use Rattle.error.specs.declared.Check.{Check}
 use Rattle.error.specs.declared.Number.{Number}
 use Rattle.error.specs.Answer.{checkClass, checkReason, numberCheck}
@@ -36,10 +37,11 @@ use Rattle.page.specs.Unchecked.{verifiedPageView, draftPageView}
 use Rattle.root.specs.declared.Root.{Root}
 use Rattle.root.specs.declared.Decoded.{Decoded}
 use Rattle.root.specs.declared.MaybeRoot.{MaybeRoot}
+use Rattle.root.specs.declared.Supported.{Supported}
 use Rattle.root.specs.Label.{labelNew}
 use Rattle.root.specs.Fields.{validateRootFields}
 use Rattle.root.specs.Root.{rootDecode}
-use Rattle.root.specs.Select.{selectRoot, supportedRoot}
+use Rattle.root.specs.Select.{selectRoot, supportedRoot, chooseRoot}
 
 -- a reason of the list
 abbrev pub isReason : ℕ → Bool
@@ -50,11 +52,28 @@ abbrev pub isAnswer : ℕ → ℕ → Bool
 isAnswer class reason =
     ((eqb class 0 || (eqb class 1 || eqb class 4)) && eqb reason 0) || ((eqb class 2 || (eqb class 3 || eqb class 6)) && isReason reason)
 
+-- in mode Disk nothing is the caller's error: classes 1, 2 and 6 aren't answered
+abbrev pub isIn : Validation → ℕ → Bool
+isIn Input class = true
+isIn Disk class = eqb class 0 || (eqb class 3 || eqb class 4)
+
+-- both, of a call that goes by a mode
+abbrev pub isAnswerIn : Validation → ℕ → ℕ → Bool
+isAnswerIn mode class reason = isIn mode class && isAnswer class reason
+
 -- a check, a check that gives a number, and a page's numbers
-pub record Answers (c : Check) : Type 0 where
-  pub told : isAnswer (checkClass c) (checkReason c) ≡ true
+pub record AnswersIn (mode : Validation) (c : Check) : Type 0 where
+  pub told : isAnswerIn mode (checkClass c) (checkReason c) ≡ true
+
+-- the same of a call that goes by no mode
+abbrev pub Answers : Check → Type 0
+Answers c = AnswersIn Input c
 
 -- the same of a call that gives a number
+abbrev pub NumberAnswersIn : Validation → Number → Type 0
+NumberAnswersIn mode n = AnswersIn mode (numberCheck n)
+
+-- the same of one that goes by no mode
 abbrev pub NumberAnswers : Number → Type 0
 NumberAnswers n = Answers (numberCheck n)
 
@@ -65,39 +84,40 @@ PageAnswers p = isAnswer (p .class) (p .reason) ≡ true
 -- demand 1, call by call, by the sections of 01
 pub record Demand1 : Type 0 where
   -- section 2: blocks, references and slots
-  pub blocks : (blocks : ℕ) (mode : Validation) → Answers (validateBlocks blocks mode)
-  pub tree-ref : (reference : TreeRef) (blocks : ℕ) (mode : Validation) → Answers (validateTreeRef reference blocks mode)
-  pub page-ref : (reference : TreeRef) (kind : TreeKind) (blocks : ℕ) (mode : Validation) → Answers (validatePageRef reference kind blocks mode)
-  pub root-slot : (slot blocks : ℕ) (mode : Validation) → Answers (validateRootSlot slot blocks mode)
-  pub uuid : (uuid : List ℕ) (mode : Validation) → Answers (validateUuid uuid mode)
+  pub blocks : (blocks : ℕ) (mode : Validation) → AnswersIn mode (validateBlocks blocks mode)
+  pub tree-ref : (reference : TreeRef) (blocks : ℕ) (mode : Validation) → AnswersIn mode (validateTreeRef reference blocks mode)
+  pub page-ref : (reference : TreeRef) (kind : TreeKind) (blocks : ℕ) (mode : Validation) → AnswersIn mode (validatePageRef reference kind blocks mode)
+  pub root-slot : (slot blocks : ℕ) (mode : Validation) → AnswersIn mode (validateRootSlot slot blocks mode)
+  pub uuid : (uuid : List ℕ) (mode : Validation) → AnswersIn mode (validateUuid uuid mode)
   pub group-count : (blocks : ℕ) → NumberAnswers (allocationGroupCount blocks)
-  -- section 3: labels, roots and their choice; `supported_root` passes on what it is given
+  -- section 3: labels, roots and their choice; `supported_root` and `choose_root` pass on what they are given
   pub label : (text : List ℕ) → Answers (labelNew text .answer)
   pub root : (s : List ℕ) (slot blocks : ℕ) → Answers (rootDecode s slot blocks .answer)
-  pub root-fields : (r : Root) (slot blocks : ℕ) (mode : Validation) → Answers (validateRootFields r slot blocks mode)
+  pub root-fields : (r : Root) (slot blocks : ℕ) (mode : Validation) → AnswersIn mode (validateRootFields r slot blocks mode)
   pub chosen : (a b : MaybeRoot) → Answers (selectRoot a b .answer)
   pub supported : (d : Decoded) → Answers (d .answer) → Answers (supportedRoot d .answer)
+  pub choice : (a b : Supported) → Answers (a .answer) → Answers (b .answer) → Answers (chooseRoot a b .answer)
   -- section 4: pages
   pub header : (reference : TreeRef) (uuid : List ℕ) (kind : TreeKind) (parent : ℕ) (expected : Expected) (blocks : ℕ) (page : List ℕ) → Answers (validatePageHeader reference uuid kind parent expected blocks page)
   pub page : (reference : TreeRef) (uuid : List ℕ) (kind : TreeKind) (parent : ℕ) (expected : Expected) (blocks : ℕ) (page : List ℕ) → PageAnswers (decodePage reference uuid kind parent expected blocks page)
   pub verified : (reference : TreeRef) (uuid : List ℕ) (kind : TreeKind) (parent : ℕ) (expected : Expected) (page : List ℕ) → PageAnswers (verifiedPageView reference uuid kind parent expected page)
   pub draft : (page : List ℕ) → PageAnswers (draftPageView page)
   -- section 5: records of every kind, and the walk over them
-  pub owner : (owner : ℕ) (mode : Validation) → Answers (validateOwnerId owner mode)
-  pub catalog-key : (key : List ℕ) (mode : Validation) → NumberAnswers (validateCatalogKey key mode)
-  pub timestamp : (seconds : ℤ) (nanos : ℕ) (mode : Validation) → Answers (validateTimestampRange seconds nanos mode)
-  pub target : (target : List ℕ) (mode : Validation) → Answers (validateSymlinkTarget target mode)
-  pub inode : (value : List ℕ) (blocks : ℕ) (mode : Validation) → Answers (validateInode value blocks mode)
-  pub entry : (value : List ℕ) (mode : Validation) → Answers (validateDirectoryEntry value mode)
-  pub extent : (key value : List ℕ) (blocks : ℕ) (mode : Validation) → NumberAnswers (validateExtent key value blocks mode)
-  pub allocation-group : (key value : List ℕ) (blocks : ℕ) (mode : Validation) → Answers (validateAllocationGroup key value blocks mode)
-  pub cleanup : (key value : List ℕ) (blocks generation : ℕ) (mode : Validation) → Answers (validateCleanupKeyValue key value blocks generation mode)
-  pub workspace-key : (key : List ℕ) (blocks : ℕ) (mode : Validation) → Answers (validateWorkspaceKey key blocks mode)
-  pub workspace-run : (key value : List ℕ) (blocks : ℕ) (mode : Validation) → Answers (validateWorkspaceRun key value blocks mode)
-  pub internal-record : (kind : TreeKind) (key value : List ℕ) (blocks generation : ℕ) (mode : Validation) → NumberAnswers (childBlock (validateInternalRecord kind key value blocks generation mode))
-  pub leaf-record : (kind : TreeKind) (key value : List ℕ) (blocks generation : ℕ) (mode : Validation) → NumberAnswers (validateLeafRecord kind key value blocks generation mode)
+  pub owner : (owner : ℕ) (mode : Validation) → AnswersIn mode (validateOwnerId owner mode)
+  pub catalog-key : (key : List ℕ) (mode : Validation) → NumberAnswersIn mode (validateCatalogKey key mode)
+  pub timestamp : (seconds : ℤ) (nanos : ℕ) (mode : Validation) → AnswersIn mode (validateTimestampRange seconds nanos mode)
+  pub target : (target : List ℕ) (mode : Validation) → AnswersIn mode (validateSymlinkTarget target mode)
+  pub inode : (value : List ℕ) (blocks : ℕ) (mode : Validation) → AnswersIn mode (validateInode value blocks mode)
+  pub entry : (value : List ℕ) (mode : Validation) → AnswersIn mode (validateDirectoryEntry value mode)
+  pub extent : (key value : List ℕ) (blocks : ℕ) (mode : Validation) → NumberAnswersIn mode (validateExtent key value blocks mode)
+  pub allocation-group : (key value : List ℕ) (blocks : ℕ) (mode : Validation) → AnswersIn mode (validateAllocationGroup key value blocks mode)
+  pub cleanup : (key value : List ℕ) (blocks generation : ℕ) (mode : Validation) → AnswersIn mode (validateCleanupKeyValue key value blocks generation mode)
+  pub workspace-key : (key : List ℕ) (blocks : ℕ) (mode : Validation) → AnswersIn mode (validateWorkspaceKey key blocks mode)
+  pub workspace-run : (key value : List ℕ) (blocks : ℕ) (mode : Validation) → AnswersIn mode (validateWorkspaceRun key value blocks mode)
+  pub internal-record : (kind : TreeKind) (key value : List ℕ) (blocks generation : ℕ) (mode : Validation) → NumberAnswersIn mode (childBlock (validateInternalRecord kind key value blocks generation mode))
+  pub leaf-record : (kind : TreeKind) (key value : List ℕ) (blocks generation : ℕ) (mode : Validation) → NumberAnswersIn mode (validateLeafRecord kind key value blocks generation mode)
   pub leaf-blocks : (kind : TreeKind) (key value : List ℕ) (blocks generation : ℕ) → NumberAnswers (leafRecordBlocks kind key value blocks generation)
-  pub walk : (rest : List ℕ) (payloadLength count : ℕ) (context : RecordValidation) → NumberAnswers (validateRecords rest payloadLength count context)
+  pub walk : (rest : List ℕ) (payloadLength count : ℕ) (context : RecordValidation) → NumberAnswersIn (context .mode) (validateRecords rest payloadLength count context)
   -- section 6: checksum groups
-  pub group : (key value : List ℕ) (mode : Validation) → Answers (validateChecksumGroup key value mode)
+  pub group : (key value : List ℕ) (mode : Validation) → AnswersIn mode (validateChecksumGroup key value mode)
   pub slot : (g : List ℕ) (s : ℕ) → isAnswer (slotClass (checksumSlot g s)) (slotReason (checksumSlot g s)) ≡ true

@@ -6,7 +6,6 @@ use crate::arguments::reference;
 use crate::arguments::text;
 use crate::fields::Fields;
 use crate::fields::check;
-use crate::fields::four;
 use crate::output;
 use error::Check;
 use root::Label;
@@ -118,31 +117,10 @@ fn selection(s: Selected, count: usize) -> Fields {
     Fields { count, values }
 }
 
-// Beside a refusal neither root is chosen.
-fn refused(c: Check) -> Fields {
-    four(
-        error::check_class(c) as u64,
-        error::check_reason(c) as u64,
-        0,
-        0,
-    )
-}
-
-// The first's refusal goes before the second's.
-fn chosen(a: Supported, b: Supported) -> Fields {
-    let first = a.answer;
-    if !is_passed(first) {
-        return refused(first);
-    }
-    let second = b.answer;
-    if !is_passed(second) {
-        return refused(second);
-    }
-    selection(root::select_root(a.found, b.found), 4)
-}
-
 pub fn choice(n: Numbers, first: &[u8], second: &[u8]) -> Fields {
-    chosen(supported(first, n.a, n.b), supported(second, n.c, n.d))
+    let a = supported(first, n.a, n.b);
+    let b = supported(second, n.c, n.d);
+    selection(root::choose_root(a, b), 4)
 }
 
 // A number of the root whose numbers start at a place.

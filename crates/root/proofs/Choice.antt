@@ -1,14 +1,19 @@
 -- The choice between two roots, case by case.
-use mathlib.Core.Path.{_≡_, refl, sym, _∙_}
-use mathlib.Core.Bool.{Bool, true, false, not, _&&_}
+use mathlib.Core.Path.{_≡_, refl, sym, ap, _∙_}
+use mathlib.Core.Bool.{Bool, true, false, not, _&&_, _||_, cond}
+use mathlib.Core.List.{[], _∷_}
+use mathlib.Core.Logic.{_⊎_, inl, inr}
 use Prim.Native.Nat.{ℕ, _≤_, _<_}
 use native.Mathlib.Omega.{arith}
-use borrow.Author.Tests.{le-leb, lt-leb, eq-eqb, ne-eqb, not-true, not-false}
-use lib.Dec.{eqb}
-use Rattle.error.specs.declared.Check.the-variants.{Passed}
-use Rattle.error.specs.Answer.{checkClass}
-use Rattle.error.specs.Demand.{outcome}
+use borrow.Author.Tests.{le-leb, lt-leb, eq-eqb, ne-eqb, leb-true, leb-false, not-true, not-false}
+use lib.Dec.{leb, eqb}
+use Rattle.error.specs.declared.Check.{Check}
+use Rattle.error.specs.declared.Check.the-variants.{Passed, Refused}
+use Rattle.error.specs.Answer.{classOf, checkClass}
+use Rattle.error.specs.Demand.{passing, outcome}
+use Rattle.error.proofs.Exactly.{class-some}
 use Rattle.error.specs.Reason as reason
+use Rattle.error.specs.declared.Error.{Error}
 use Rattle.error.specs.declared.Error.the-variants.{Corrupt}
 use Rattle.octets.specs.Bytes.{sameBytes}
 use Rattle.root.specs.declared.Label.{Label}
@@ -18,7 +23,7 @@ use Rattle.root.specs.declared.MaybeRoot.{MaybeRoot}
 use Rattle.root.specs.declared.Selected.{Selected}
 use Rattle.root.specs.declared.Supported.{Supported}
 use Rattle.root.specs.Root.{noRoot}
-use Rattle.root.specs.Select.{sameLabel, sameRoot, selection, selectionRefused, selectPair, selectBy, none, selectRoot, supportedRoot}
+use Rattle.root.specs.Select.{sameLabel, sameRoot, selection, selectionRefused, selectPair, selectBy, none, selectRoot, supportedRoot, chooseRoot, Newest, ChosenIsNewest, RefusalsStand}
 
 -- ---- two roots
 
@@ -106,3 +111,74 @@ module _ (d : Decoded) (n : ℕ) (p : n ≡ checkClass (d .answer)) where
   supported-on r z k e = rw (ne-eqb (checkClass (d .answer)) 0 (λ y. z (p ∙ y)), ne-eqb (checkClass (d .answer)) 3 (λ y. k (p ∙ y)), e)
 
 pub ruleset supported = (supported-one, supported-none, supported-on)
+
+-- ---- two slots
+
+module _ (x : Selected) (a b : Supported) where
+  pub choose-first : (e : Error) → a .answer ≡ Refused e → x ≡ selectionRefused e → x ≡ chooseRoot a b
+  unfolding chooseRoot outcome
+  choose-first e p q = rw p q
+
+  pub choose-second : (e : Error) → a .answer ≡ Passed → b .answer ≡ Refused e → x ≡ selectionRefused e → x ≡ chooseRoot a b
+  unfolding chooseRoot outcome
+  choose-second e p q k = rw (p, q) k
+
+  pub choose-found : a .answer ≡ Passed → b .answer ≡ Passed → x ≡ selectRoot (a .found) (b .found) → x ≡ chooseRoot a b
+  unfolding chooseRoot outcome
+  choose-found p q k = rw (p, q) k
+
+pub ruleset choose = (choose-first, choose-second, choose-found)
+
+-- ---- a chosen root is the newest
+
+never : {A : Type 0} {e : Error} → Refused e ≡ Passed → A
+never p = let z : _≡_ {A = ℕ} 0 1 = cc in absurd (omega arith)
+
+-- `selectPair` by its three tests
+abbrev pick : Root → Root → Bool → Bool → Bool → Selected
+pick a b t u v = cond t (cond u (cond v (selection 1 a) (selection 2 b)) (selectionRefused (Corrupt reason.sameGenerationRootsConflict))) (selectionRefused (Corrupt reason.rootUuidsConflict))
+
+module _ (a b : MaybeRoot) where
+  pair-newest : a .present ≡ true → b .present ≡ true → selectPair (a .root) (b .root) .answer ≡ Passed → Newest a b (selectPair (a .root) (b .root))
+  unfolding selectPair outcome
+  pair-newest p q h = go (sameBytes (a .root .uuid) (b .root .uuid)) (not (eqb (a .root .generation) (b .root .generation)) || sameRoot (a .root) (b .root)) (leb (b .root .generation) (a .root .generation)) refl h
+    where
+      go : (t u v : Bool) → leb (b .root .generation) (a .root .generation) ≡ v → pick (a .root) (b .root) t u v .answer ≡ Passed → Newest a b (pick (a .root) (b .root) t u v)
+      go true true true e h = record { one = inl (refl, p, refl); first = λ _. omega arith; second = λ _. leb-true (b .root .generation) (a .root .generation) e }
+      go true true false e h = record { one = inr (refl, q, refl); first = λ _. omega (arith, leb-false (b .root .generation) (a .root .generation) e); second = λ _. omega arith }
+      go true false v e h = never h
+      go false u v e h = never h
+
+  select-newest : selectRoot a b .answer ≡ Passed → Newest a b (selectRoot a b)
+  select-newest h = go (a .present) (b .present) refl refl h
+    where
+      go : (x y : Bool) → a .present ≡ x → b .present ≡ y → selectBy x y (a .root) (b .root) .answer ≡ Passed → Newest a b (selectBy x y (a .root) (b .root))
+      go false false p q h = never h
+      go true false p q h = record { one = inl (refl, p, refl); first = λ _. omega arith; second = λ z. let k : _≡_ {A = ℕ} 0 1 = cc in omega arith }
+      go false true p q h = record { one = inr (refl, q, refl); first = λ z. let k : _≡_ {A = ℕ} 0 1 = cc in omega arith; second = λ _. omega arith }
+      go true true p q h = pair-newest p q h
+
+pub chosen-is-newest : ChosenIsNewest
+unfolding chooseRoot outcome
+chosen-is-newest a b h = go (a .answer) (b .answer) h
+  where
+    go : (x y : Check) → outcome (passing x ∷ passing y ∷ []) selectionRefused (selectRoot (a .found) (b .found)) .answer ≡ Passed → Newest (a .found) (b .found) (outcome (passing x ∷ passing y ∷ []) selectionRefused (selectRoot (a .found) (b .found)))
+    go Passed Passed h = select-newest (a .found) (b .found) h
+    go Passed (Refused e) h = never h
+    go (Refused e) y h = never h
+
+-- ---- a refusal that isn't class 3 stands
+
+-- what `supported_root` makes of a refusal, and of what it doesn't pass on
+refusal-on : (d : Decoded) (e : Error) → d .answer ≡ Refused e → (classOf e ≡ 3 → ⊥) → supportedRoot d .answer ≡ Refused e
+refusal-on d e p k = rw (p, ne-eqb (classOf e) 0 (class-some e), ne-eqb (classOf e) 3 k)
+
+not-on : (d : Decoded) → (checkClass (d .answer) ≡ 0) ⊎ (checkClass (d .answer) ≡ 3) → supportedRoot d .answer ≡ Passed
+not-on d (inl p) = rw p
+not-on d (inr p) = rw p
+
+pub refusals-stand : RefusalsStand
+refusals-stand = record {
+  of-first = λ a b e p k. sym (choose-first (selectionRefused e) (supportedRoot a) (supportedRoot b) e (refusal-on a e p k) refl);
+  of-second = λ a b e s p k. sym (choose-second (selectionRefused e) (supportedRoot a) (supportedRoot b) e (not-on a s) (refusal-on b e p k) refl);
+}

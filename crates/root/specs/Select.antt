@@ -1,13 +1,15 @@
--- The choice between two roots (01, section 3: `select_root`, `supported_root`).
-use Prim.Native.Nat.{ℕ}
+-- The choice between two roots (01, section 3: `select_root`, `supported_root`), and both together.
+use Prim.Native.Nat.{ℕ, _≤_}
+use mathlib.Core.Path.{_≡_}
+use mathlib.Core.Logic.{_⊎_}
 use mathlib.Core.Bool.{Bool, true, false, not, _&&_, _||_, cond}
 use mathlib.Core.List.{List, [], _∷_}
 use lib.Dec.{leb, eqb}
 use Rattle.error.specs.declared.Error.{Error}
 use Rattle.error.specs.declared.Error.the-variants.{Corrupt}
 use Rattle.error.specs.declared.Check.the-variants.{Passed, Refused}
-use Rattle.error.specs.Answer.{checkClass}
-use Rattle.error.specs.Demand.{Demand, _otherwise_, outcome}
+use Rattle.error.specs.Answer.{classOf, checkClass}
+use Rattle.error.specs.Demand.{Demand, _otherwise_, passing, outcome}
 use Rattle.error.specs.Reason as reason
 use Rattle.octets.specs.Bytes.{sameBytes}
 use Rattle.volume.specs.declared.TreeRef.{TreeRef}
@@ -90,3 +92,28 @@ supportedRoot d =
     cond (eqb (checkClass (d .answer)) 0) (record { answer = Passed; found = oneRoot (d .root) })
     (cond (eqb (checkClass (d .answer)) 3) (record { answer = Passed; found = none })
     (record { answer = d .answer; found = none }))
+
+-- section 3, of two slots: what `supported_root` passes on is the answer, the first's before the second's
+abbrev pub choiceDemands : Supported → Supported → List Demand
+choiceDemands a b = passing (a .answer) ∷ passing (b .answer) ∷ []
+
+-- otherwise `select_root`
+unfoldable pub chooseRoot : Supported → Supported → Selected
+chooseRoot a b = outcome (choiceDemands a b) selectionRefused (selectRoot (a .found) (b .found))
+
+-- ---- the same, plainly
+
+-- a chosen root is one of those that are there, and none of those is newer
+pub record Newest (a b : MaybeRoot) (s : Selected) : Type 0 where
+  pub one : ((s .which ≡ 1) × (a .present ≡ true) × (s .root ≡ a .root)) ⊎ ((s .which ≡ 2) × (b .present ≡ true) × (s .root ≡ b .root))
+  pub first : a .present ≡ true → a .root .generation ≤ s .root .generation
+  pub second : b .present ≡ true → b .root .generation ≤ s .root .generation
+
+-- where a root is chosen it is such a one
+abbrev pub ChosenIsNewest : Type 0
+ChosenIsNewest = (a b : Supported) → chooseRoot a b .answer ≡ Passed → Newest (a .found) (b .found) (chooseRoot a b)
+
+-- a block refused with another class than 3 decides for both, the first before the second
+pub record RefusalsStand : Type 0 where
+  pub of-first : (a b : Decoded) (e : Error) → a .answer ≡ Refused e → (classOf e ≡ 3 → ⊥) → chooseRoot (supportedRoot a) (supportedRoot b) ≡ selectionRefused e
+  pub of-second : (a b : Decoded) (e : Error) → (checkClass (a .answer) ≡ 0) ⊎ (checkClass (a .answer) ≡ 3) → b .answer ≡ Refused e → (classOf e ≡ 3 → ⊥) → chooseRoot (supportedRoot a) (supportedRoot b) ≡ selectionRefused e

@@ -7,7 +7,7 @@ ghost use Rattle.octets.specs.Number.{u16At};
 ghost use Rattle.root.specs.Label.{isLabel, labelOf, noLabel, labelNew};
 ghost use Rattle.root.specs.Root.{labelText, rootOf, checkPlace, checksumFits, areSizesRight, checkEnvelope, checkText, checkLabel, checkIdentity, checkBlock, noRoot, rootDecode};
 ghost use Rattle.root.specs.Fields.{areApart, areUpTo, checkGeneral, checkRefs, checkWorkspace, checkTrees, checkNumbers, validateRootFields};
-ghost use Rattle.root.specs.Select.{sameLabel, sameRef, sameRoot, selection, selectionRefused, selectPair, none, selectRoot, supportedRoot};
+ghost use Rattle.root.specs.Select.{sameLabel, sameRef, sameRoot, selection, selectionRefused, selectPair, none, selectRoot, supportedRoot, chooseRoot};
 use error::Check;
 use error::Error;
 use error::Validation;
@@ -63,7 +63,7 @@ pub struct Supported {
     pub found: MaybeRoot,
 }
 
-// The answer of `select_root`: which is 1 for the first, 2 for the second, and 0 beside a refusal.
+// The answer of `select_root` and `choose_root`: which is 1 for the first, 2 for the second, and 0 beside a refusal.
 pub struct Selected {
     pub answer: Check,
     pub which: u8,
@@ -696,4 +696,19 @@ pub fn supported_root(decoded: Decoded) -> Supported
         };
     }
     Supported { answer, found }
+}
+
+// The current root of two slots' blocks. A refusal that `supported_root` passed on is the answer, the first's before the second's.
+pub fn choose_root(a: Supported, b: Supported) -> Selected
+    ensures { λ r. ⌜ r ≡ chooseRoot a b ⌝ }
+{
+    let first = a.answer;
+    if let Check::Refused(e) = first {
+        return selection_refused(e);
+    }
+    let second = b.answer;
+    if let Check::Refused(e) = second {
+        return selection_refused(e);
+    }
+    select_root(a.found, b.found)
 }
