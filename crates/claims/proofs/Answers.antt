@@ -13,7 +13,7 @@ use Rattle.error.specs.declared.Validation.the-variants.{Input, Disk}
 use Rattle.error.specs.declared.Check.{Check}
 use Rattle.error.specs.declared.Check.the-variants.{Passed, Refused}
 use Rattle.error.specs.declared.Number.{Number}
-use Rattle.error.specs.Answer.{classOf, reasonOf, checkClass, numberOf, violationOf}
+use Rattle.error.specs.Answer.{classOf, reasonOf, checkClass, checkReason, numberOf, violationOf}
 use Rattle.error.specs.Demand.{Demand, refusalOf, outcome, demands}
 use Rattle.error.specs.Reason as reason
 use Rattle.error.proofs.Tests.{and-right}
@@ -78,8 +78,11 @@ record Good (mode : Validation) (e : Error) : Type 0 where
   told : isAnswerIn mode (classOf e) (reasonOf e) ≡ true
 
 passing-answers : {mode : Validation} → AnswersIn mode Passed
-passing-answers {Input} = record { told = refl }
-passing-answers {Disk} = record { told = refl }
+passing-answers {mode} = go mode
+  where
+    go : (mode : Validation) → AnswersIn mode Passed
+    go Input = record { told = refl }
+    go Disk = record { told = refl }
 
 refused-answers : {mode : Validation} (e : Error) → Good mode e → AnswersIn mode (Refused e)
 refused-answers e g = record { told = g .told }

@@ -65,8 +65,11 @@ module _ (cs : List ℕ) (passed : among cs 0 ≡ true) (three : among cs 3 ≡ 
   module _ (two : among cs 2 ≡ true) (four : among cs 4 ≡ true) where
     -- a check that is one demand of a longer chain
     kept : {c : Check} → Within cs c → Of cs (refusalOf c)
-    kept {Passed} h = four
-    kept {Refused e} h = h .within
+    kept {c} h = go c h
+      where
+        go : (c : Check) → Within cs c → Of cs (refusalOf c)
+        go Passed h = four
+        go (Refused e) h = h .within
 
     -- what is answered in mode Disk
     disk : {c : Check} → AnswersIn Disk c → Within cs c
