@@ -18,7 +18,7 @@ mod ondisk {
 
 #[cfg(reference)]
 mod beside {
-    use crate::common::{Body, PageBlock, READBACK, VOLUME, bodies, group, group_key, pages, roots};
+    use crate::common::{Body, PageBlock, READBACK, VOLUME, bodies, group, group_key, pages, roots, stranger};
     use crate::ondisk::error::Error;
     use crate::ondisk::{crc, format};
     use carryfs::*;
@@ -173,7 +173,9 @@ mod beside {
     /// Every root of the samples beside every other, and each pair of the volume's with one of them damaged.
     #[test]
     fn selections_are_alike() {
-        let all: Vec<RootBlock> = [roots(VOLUME), roots(READBACK)].concat();
+        let bytes = stranger(roots(VOLUME)[0]);
+        let other = RootBlock { bytes: &bytes, ..roots(VOLUME)[0] };
+        let all: Vec<RootBlock> = [roots(VOLUME), roots(READBACK), vec![other]].concat();
         let mut answers = Vec::new();
         for &first in &all {
             answers.extend(all.iter().map(|&second| compare_selection(first, second)));
@@ -185,11 +187,11 @@ mod beside {
                 answers.push(compare_selection(second, damaged));
             });
         }
-        // Chosen: the first, the second. Refused: no root, two of a generation, and what a block alone is refused for.
-        for due in [Ok(Which::First), Ok(Which::Second)]
-            .into_iter()
-            .chain([(1, 0), (2, 14), (3, 163), (3, 165), (4, 0)].map(|(class, reason)| Err(Refusal { class, reason })))
-        {
+        // Chosen: the first, the second. Refused: no root, of two volumes, two of a generation, and what a block alone is refused for.
+        for due in [Ok(Which::First), Ok(Which::Second)].into_iter().chain(
+            [(1, 0), (2, 14), (3, 163), (3, 164), (3, 165), (4, 0)]
+                .map(|(class, reason)| Err(Refusal { class, reason })),
+        ) {
             assert!(answers.contains(&due), "{due:?}");
         }
     }

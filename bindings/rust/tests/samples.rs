@@ -3,7 +3,7 @@ use carryfs::{
     PageView, Refusal, Root, RootBlock, TreeKind, Which, checksum_slot, crc32c, data_unit_crc, decode_page,
     validate_checksum_group,
 };
-use common::{BLOCK, Body, READBACK, VOLUME, bodies, group, group_key, pages, roots};
+use common::{BLOCK, Body, READBACK, VOLUME, bodies, group, group_key, pages, roots, stranger};
 
 mod common;
 #[path = "../src/library.rs"]
@@ -73,6 +73,16 @@ fn the_sample_volume_is_read_from_its_roots_to_its_data() {
         assert_eq!(checksum_slot(value, 256), refused(3, 4));
     }
     assert!(page.floor_record(&[], &mut [0; 5]).is_none());
+    // Of fewer records than the payload has, the rest isn't seen.
+    let fewer = PageView { count: 3, ..page };
+    assert_eq!(fewer.records().count(), 3);
+    for entries in [0, 3] {
+        let (index, records) =
+            fewer.floor_record(&[0, 0, 0, 0, 0, 0, 0, 1, 2], &mut vec![0; entries]).expect("a record");
+        assert_eq!((index, records.count()), (0, 3));
+        let (index, records) = fewer.floor_record(&key, &mut vec![0; entries]).expect("a record");
+        assert_eq!((index, records.count()), (2, 1));
+    }
 }
 
 #[test]
@@ -97,16 +107,10 @@ fn one_of_two_roots_is_selected() {
     assert_eq!(Root::select(slotless, revised), refused(2, 14));
     assert_eq!(Root::select(revised, slotless), refused(4, 0));
     assert_eq!(Root::select(bad, RootBlock { blocks: 1023, ..old }), refused(1, 0));
-    // A root of another volume: another UUID, and the checksum at the end made to fit.
-    let mut bytes = new.bytes.to_vec();
-    let at = bytes.windows(16).position(|part| part == decode(new).expect("a root").uuid).expect("the UUID");
-    bytes[at] ^= 1;
-    bytes[4092..].fill(0);
-    let word = crc32c(&bytes);
-    bytes[4092..].copy_from_slice(&word.to_le_bytes());
-    let stranger = RootBlock { bytes: &bytes, ..new };
-    assert!(decode(stranger).is_ok());
-    assert_eq!(Root::select(old, stranger), refused(3, 164));
+    let bytes = stranger(new);
+    let other = RootBlock { bytes: &bytes, ..new };
+    assert!(decode(other).is_ok());
+    assert_eq!(Root::select(old, other), refused(3, 164));
 }
 
 #[test]

@@ -1,6 +1,6 @@
 //! The bodies of samples/, as 01's "The program readback" lays them out.
 #![allow(dead_code)]
-use carryfs::{RootBlock, TreeKind, TreeRef};
+use carryfs::{Root, RootBlock, TreeKind, TreeRef, crc32c};
 
 pub const VOLUME: &[u8] = include_bytes!("../../../../samples/volume.readback");
 pub const READBACK: &[u8] = include_bytes!("../../../../samples/readback.bin");
@@ -59,6 +59,18 @@ pub fn roots(file: &[u8]) -> Vec<RootBlock<'_>> {
 
 pub fn pages(file: &[u8]) -> Vec<PageBlock<'_>> {
     bodies(file).into_iter().filter_map(|body| if let Body::Page(page) = body { Some(page) } else { None }).collect()
+}
+
+/// A root like this one, of another volume: another UUID, and the checksum at the end made to fit.
+pub fn stranger(root: RootBlock) -> Vec<u8> {
+    let mut bytes = root.bytes.to_vec();
+    let uuid = Root::decode(root.bytes, root.slot, root.blocks).expect("a root").uuid;
+    let at = bytes.windows(16).position(|part| part == uuid).expect("the UUID");
+    bytes[at] ^= 1;
+    bytes[BLOCK - 4..].fill(0);
+    let word = crc32c(&bytes);
+    bytes[BLOCK - 4..].copy_from_slice(&word.to_le_bytes());
+    bytes
 }
 
 /// A full checksum group with words in some slots, and its stored form.
