@@ -32,6 +32,7 @@ unfolding groupWords
 group-length key value = refl
 
 pub unit-length : (n : Number) → length (unitWords n) ≡ 3
+unfolding unitWords
 unit-length n = refl
 
 pub choice-length : (s : Selected) → length (choiceWords s) ≡ 4

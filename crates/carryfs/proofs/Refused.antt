@@ -44,6 +44,7 @@ slot-bare (Word w) h = accepted h
 slot-bare (Slot.Refused e) h = refl
 
 unit-bare : (n : Number) → Bare (unitWords n)
+unfolding unitWords
 unit-bare (Number.Value n) h = accepted h
 unit-bare (Number.Refused e) h = refl
 

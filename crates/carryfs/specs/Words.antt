@@ -64,7 +64,7 @@ abbrev pub isUuid : ℕ → Bool
 isUuid size = eqb size 16
 
 -- class, reason, the word of a data unit
-abbrev pub unitWords : Number → List ℕ
+unfoldable pub unitWords : Number → List ℕ
 unitWords n = checkClass (numberCheck n) ∷ checkReason (numberCheck n) ∷ numberOf n ∷ []
 
 -- whether there is a record, its index, how many records there are from it on, where they start in the payload

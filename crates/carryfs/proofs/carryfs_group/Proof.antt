@@ -9,7 +9,7 @@ returns : tie.Need-returns
 unfolding groupWords
 returns c =
     let w = c .before .before .before .before .before in
-    let a = w .before .before .before .before .args in
+    let a = w .before .before .before .before .before .args in
     placed-as 2 _ _ (a .out .now) _ _ (group-length (a .key .now) (a .value .now)) (w .check-words .ensures ∙ ap checkWords (w .before .validate-checksum-group .ensures)) (c .before .before .place .ensures)
 
 pub carryfs-group-spec : {M : Type 1} → statement M
