@@ -3,7 +3,6 @@
 //! without it the tests that need it are left out.
 use std::env;
 use std::fs;
-use std::io::ErrorKind;
 use std::path::{Path, PathBuf};
 use std::process::{Command, exit};
 
@@ -44,18 +43,18 @@ fn library_of_repository(top: &Path) -> PathBuf {
             top.display()
         ));
     }
-    match Command::new("rt").args(["staticlib", "carryfs"]).current_dir(top).output() {
-        Ok(output) if output.status.success() => {}
-        Ok(output) => {
-            eprint!("{}{}", String::from_utf8_lossy(&output.stdout), String::from_utf8_lossy(&output.stderr));
-            fail(&format!("`rt staticlib carryfs` failed in {}", top.display()))
-        }
-        Err(error) if error.kind() == ErrorKind::NotFound => {
-            if folder.join(LIBRARY).is_file() {
-                println!("cargo::warning=there is no `rt` to bring {LIBRARY} up to date: it is taken as it is");
+    if Command::new("rt").arg("version").output().is_ok_and(|output| output.status.success()) {
+        // rt staticlib carryfs, where something has changed
+        match Command::new("tools/build").args(["staticlib", "carryfs"]).current_dir(top).output() {
+            Ok(output) if output.status.success() => {}
+            Ok(output) => {
+                eprint!("{}", String::from_utf8_lossy(&output.stderr));
+                fail(&format!("`tools/build staticlib carryfs` failed in {}", top.display()))
             }
+            Err(error) => fail(&format!("tools/build can't be run: {error}; {help}")),
         }
-        Err(error) => fail(&format!("`rt` can't be run: {error}; {help}")),
+    } else if folder.join(LIBRARY).is_file() {
+        println!("cargo::warning=there is no `rt` to bring {LIBRARY} up to date: it is taken as it is");
     }
     if !folder.join(LIBRARY).is_file() {
         fail(&format!("no {LIBRARY} in {}; {help}", folder.display()));
