@@ -45,7 +45,7 @@ fn library_of_repository(top: &Path) -> PathBuf {
     }
     if Command::new("rt").arg("version").output().is_ok_and(|output| output.status.success()) {
         // rt staticlib carryfs, where something has changed
-        match Command::new("tools/build").args(["staticlib", "carryfs"]).current_dir(top).output() {
+        match Command::new(top.join("tools/build")).args(["staticlib", "carryfs"]).current_dir(top).output() {
             Ok(output) if output.status.success() => {}
             Ok(output) => {
                 eprint!("{}", String::from_utf8_lossy(&output.stderr));
