@@ -15,7 +15,7 @@ use Rattle.octets.specs.Bytes.{allZero}
 use Rattle.group.specs.declared.Slot.{Slot}
 use Rattle.group.specs.declared.Slot.the-variants.{Hole, Word}
 use Rattle.page.specs.declared.Page.{Page}
-use Rattle.page.specs.Page.{pageDemands, refusedPage, acceptedPage, decodePage}
+use Rattle.page.specs.Page.{refusedPage, acceptedPage, decodePage}
 use Rattle.root.specs.declared.Root.{Root}
 use Rattle.root.specs.declared.Decoded.{Decoded}
 use Rattle.root.specs.declared.MaybeRoot.{MaybeRoot}

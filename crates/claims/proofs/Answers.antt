@@ -1,5 +1,5 @@
 -- Demand 1's statement holds: every refusal in a list of demands is one of 01's table, and so is what is made of it.
-use Prim.Native.Nat.{ℕ, zero, suc, _-_}
+use Prim.Native.Nat.{ℕ, zero, suc}
 use mathlib.Core.Path.{_≡_, refl}
 use mathlib.Core.Bool.{Bool, true, false, _&&_, _||_, cond}
 use mathlib.Core.List.{List, [], _∷_}
@@ -52,7 +52,7 @@ use Rattle.root.specs.declared.Selected.{Selected}
 use Rattle.root.specs.Label.{labelDemands, labelNew}
 use Rattle.root.specs.Fields.{generalDemands, checkGeneral, refsDemands, checkRefs, workspaceDemands, checkWorkspace, treesDemands, checkTrees, numbersDemands, checkNumbers, fieldDemands, validateRootFields}
 use Rattle.root.specs.Root as root
-use Rattle.root.specs.Root.{labelLength, labelText, rootOf, placeDemands, checkPlace, envelopeDemands, checkEnvelope, textDemands, checkText, labelFieldDemands, checkLabel, blockDemands, checkBlock, rootRefused, rootDemands, rootDecode}
+use Rattle.root.specs.Root.{rootOf, placeDemands, checkPlace, envelopeDemands, checkEnvelope, textDemands, checkText, labelFieldDemands, checkLabel, blockDemands, checkBlock, rootRefused, rootDemands, rootDecode}
 use Rattle.root.specs.Select.{selection, selectionRefused, pairDemands, selectPair, selectBy, selectRoot, oneRoot, none, supportedRoot, choiceDemands, chooseRoot}
 use Rattle.claims.specs.Answers.{isReason, isAnswer, isIn, isAnswerIn, AnswersIn, Answers, NumberAnswersIn, NumberAnswers, PageAnswers, Demand1}
 

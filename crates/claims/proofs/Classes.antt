@@ -10,7 +10,7 @@ use Rattle.error.specs.declared.Validation.the-variants.{Input, Disk}
 use Rattle.error.specs.declared.Check.{Check}
 use Rattle.error.specs.declared.Check.the-variants.{Passed, Refused}
 use Rattle.error.specs.declared.Number.{Number}
-use Rattle.error.specs.Answer.{classOf, reasonOf, checkClass, checkReason, numberCheck}
+use Rattle.error.specs.Answer.{classOf, checkClass, checkReason, numberCheck}
 use Rattle.error.specs.Demand.{Demand, refusalOf, demands}
 use Rattle.error.proofs.Tests.{and-left}
 use Rattle.crc.specs.Crc.{crc32c}
