@@ -100,7 +100,7 @@ uint32_t carryfs_select(const uint8_t *first, size_t first_length, uint64_t firs
 
 /* The page that a reference (block, generation) names, in a tree of the kind, below a parent of the generation `parent`, in a
  * volume of `blocks` blocks. Class 0, 2 (what the caller says of the page can't be), 3 or 4. A UUID that isn't 16 bytes, a kind
- * outside 1 to 4 or a level above 255 is CARRYFS_NOT_ASKED; an expected level from 8 to 254 is class 2. */
+ * outside 1 to 4 or a level above 255 is CARRYFS_NOT_ASKED; an expected level from 8 to 254 is refused. */
 #define CARRYFS_CATALOG 1u
 #define CARRYFS_ALLOCATION 2u
 #define CARRYFS_CLEANUP 3u
