@@ -21,15 +21,27 @@ abbrev pub among : List ℕ → ℕ → Bool
 among [] class = false
 among (c ∷ cs) class = eqb class c || among cs class
 
--- no class but these; that a call answers each of them, its demands show
+-- carryfs_root, carryfs_select
+abbrev pub rootClasses : List ℕ
+rootClasses = 0 ∷ 1 ∷ 2 ∷ 3 ∷ 4 ∷ []
+
+-- carryfs_page
+abbrev pub pageClasses : List ℕ
+pageClasses = 0 ∷ 2 ∷ 3 ∷ 4 ∷ []
+
+-- carryfs_group, carryfs_slot
+abbrev pub groupClasses : List ℕ
+groupClasses = 0 ∷ 3 ∷ []
+
+-- carryfs_data_unit
+abbrev pub unitClasses : List ℕ
+unitClasses = 0 ∷ 2 ∷ []
+
+-- each call answers no class but these; a data unit's reason is 0
 pub record Classes : Type 0 where
-  -- carryfs_root, carryfs_select
-  pub root : (s : List ℕ) (slot blocks : ℕ) → among (0 ∷ 1 ∷ 2 ∷ 3 ∷ 4 ∷ []) (checkClass (rootDecode s slot blocks .answer)) ≡ true
-  pub choice : (s : List ℕ) (slot blocks : ℕ) (t : List ℕ) (place size : ℕ) → among (0 ∷ 1 ∷ 2 ∷ 3 ∷ 4 ∷ []) (checkClass (chooseRoot (supportedRoot (rootDecode s slot blocks)) (supportedRoot (rootDecode t place size)) .answer)) ≡ true
-  -- carryfs_page
-  pub page : (reference : TreeRef) (uuid : List ℕ) (kind : TreeKind) (parent : ℕ) (expected : Expected) (blocks : ℕ) (page : List ℕ) → among (0 ∷ 2 ∷ 3 ∷ 4 ∷ []) (decodePage reference uuid kind parent expected blocks page .class) ≡ true
-  -- carryfs_group, carryfs_slot
-  pub group : (key value : List ℕ) → among (0 ∷ 3 ∷ []) (checkClass (validateChecksumGroup key value Disk)) ≡ true
-  pub slot : (g : List ℕ) (s : ℕ) → among (0 ∷ 3 ∷ []) (slotClass (checksumSlot g s)) ≡ true
-  -- carryfs_data_unit, whose reason is 0
-  pub unit : (uuid : List ℕ) (object unit : ℕ) (valid : List ℕ) → (among (0 ∷ 2 ∷ []) (checkClass (numberCheck (dataUnitCrc uuid object unit valid))) ≡ true) × (checkReason (numberCheck (dataUnitCrc uuid object unit valid)) ≡ 0)
+  pub root : (s : List ℕ) (slot blocks : ℕ) → among rootClasses (checkClass (rootDecode s slot blocks .answer)) ≡ true
+  pub choice : (s : List ℕ) (slot blocks : ℕ) (t : List ℕ) (place size : ℕ) → among rootClasses (checkClass (chooseRoot (supportedRoot (rootDecode s slot blocks)) (supportedRoot (rootDecode t place size)) .answer)) ≡ true
+  pub page : (reference : TreeRef) (uuid : List ℕ) (kind : TreeKind) (parent : ℕ) (expected : Expected) (blocks : ℕ) (page : List ℕ) → among pageClasses (decodePage reference uuid kind parent expected blocks page .class) ≡ true
+  pub group : (key value : List ℕ) → among groupClasses (checkClass (validateChecksumGroup key value Disk)) ≡ true
+  pub slot : (g : List ℕ) (s : ℕ) → among groupClasses (slotClass (checksumSlot g s)) ≡ true
+  pub unit : (uuid : List ℕ) (object unit : ℕ) (valid : List ℕ) → (among unitClasses (checkClass (numberCheck (dataUnitCrc uuid object unit valid))) ≡ true) × (checkReason (numberCheck (dataUnitCrc uuid object unit valid)) ≡ 0)
