@@ -1,14 +1,15 @@
 //! Our calls and the reference's, side by side. A benchmark is a function that adds its rows to the list in `main`.
 use ondisk::format::{
-    BLOCK_BYTES, Label, PageView, Root, TreeKind, TreeRef, checksum_slot, decode_page, encode_leaf, encode_node,
-    reserved_group_blocks, set_checksum_slot,
+    BLOCK_BYTES, Label, PageView, Root, TreeKind, TreeRef, Validation, checksum_slot, compact_group, decode_page,
+    encode_leaf, encode_node, reserved_group_blocks, select_root, set_checksum_slot, supported_root,
+    validate_checksum_group,
 };
 use std::cell::{Cell, RefCell};
 use std::hint::black_box;
 use std::time::Instant;
 
 // The static library.
-#[path = "../../bindings/rust/library.rs"]
+#[path = "../../bindings/rust/src/library.rs"]
 mod ours;
 
 /// One row: the same work by both sides. Each answers a number, which must be the same.
@@ -72,12 +73,43 @@ const UUID: [u8; 16] = *b"a volume's UUID.";
 /// The blocks of most volumes here.
 const B: u64 = 4096;
 
-fn root(rows: &mut Vec<Row>) {
-    let tree = |block| TreeRef { block, generation: 2 };
+/// The word of a unit of data, whole and of one block.
+fn units(rows: &mut Vec<Row>) {
+    for length in [65_536, 4096] {
+        let (a, b) = (noise(length), noise(length));
+        row(
+            rows,
+            &format!("data unit, {length} valid bytes"),
+            move || {
+                let (bytes, mut out) = (black_box(&a[..]), [0; 3]);
+                // The slices live for the call and don't overlap.
+                unsafe {
+                    ours::carryfs_data_unit(
+                        UUID.as_ptr(),
+                        UUID.len(),
+                        2,
+                        7,
+                        bytes.as_ptr(),
+                        bytes.len(),
+                        out.as_mut_ptr(),
+                        out.len(),
+                    )
+                };
+                assert_eq!(out[0], 0);
+                out[2]
+            },
+            move || u64::from(ondisk::crc::data_unit_crc(&UUID, 2, 7, black_box(&b[..])).expect("a unit")),
+        );
+    }
+}
+
+/// A root of the generation, in its block.
+fn root_block(generation: u64, slot: u64) -> [u8; BLOCK_BYTES] {
+    let tree = |block| TreeRef { block, generation };
     let root = Root {
         label: Some(Label::new("Grüße".as_bytes()).expect("a label")),
         uuid: UUID,
-        generation: 2,
+        generation,
         blocks: B,
         catalog: tree(515),
         allocation: tree(516),
@@ -89,7 +121,12 @@ fn root(rows: &mut Vec<Row>) {
         workspace_cursor: 0,
     };
     let mut block = [0; BLOCK_BYTES];
-    root.encode(256, B, &mut block).expect("a valid root");
+    root.encode(slot, B, &mut block).expect("a valid root");
+    block
+}
+
+fn root(rows: &mut Vec<Row>) {
+    let block = root_block(2, 256);
     row(
         rows,
         "`Root::decode`",
@@ -125,6 +162,43 @@ fn root(rows: &mut Vec<Row>) {
                 label[0].into(),
                 root.uuid[15].into(),
             ])
+        },
+    );
+}
+
+/// Two roots read, and one of them chosen.
+fn selection(rows: &mut Vec<Row>) {
+    const SLOTS: [u64; 2] = [256, B - 257];
+    let (first, second) = (root_block(2, SLOTS[0]), root_block(3, SLOTS[1]));
+    row(
+        rows,
+        "`select_root` of two blocks",
+        move || {
+            let (first, second) = black_box((&first[..], &second[..]));
+            let mut out = [0; 4];
+            // The slices live for the call and don't overlap.
+            unsafe {
+                ours::carryfs_select(
+                    first.as_ptr(),
+                    first.len(),
+                    SLOTS[0],
+                    B,
+                    second.as_ptr(),
+                    second.len(),
+                    SLOTS[1],
+                    B,
+                    out.as_mut_ptr(),
+                    out.len(),
+                )
+            };
+            assert_eq!(out[0], 0);
+            out[3]
+        },
+        move || {
+            let (first, second) = black_box((&first[..], &second[..]));
+            let first = supported_root(Root::decode(first, SLOTS[0], B)).expect("a root");
+            let second = supported_root(Root::decode(second, SLOTS[1], B)).expect("a root");
+            select_root(first.as_ref(), second.as_ref()).expect("a choice").generation
         },
     );
 }
@@ -314,13 +388,51 @@ fn slots(rows: &mut Vec<Row>) {
     );
 }
 
+/// The record of a group of 256 slots: every word there, and every third.
+fn groups(rows: &mut Vec<Row>) {
+    for (name, step) in [("256 words", 1), ("86 words and 170 holes", 3)] {
+        let mut group = [0; 1056];
+        (0..256).step_by(step).for_each(|slot| set_checksum_slot(&mut group, slot, Some(!(slot as u32))));
+        let key = [&2u64.to_be_bytes()[..], &[4], &7u64.to_be_bytes()].concat();
+        let value = compact_group(&group).to_vec();
+        let (other_key, other_value) = (key.clone(), value.clone());
+        row(
+            rows,
+            &format!("checksum group, {name}"),
+            move || {
+                let (key, value) = black_box((&key[..], &value[..]));
+                let mut out = [0; 2];
+                // The slices live for the call and don't overlap.
+                unsafe {
+                    ours::carryfs_group(
+                        key.as_ptr(),
+                        key.len(),
+                        value.as_ptr(),
+                        value.len(),
+                        out.as_mut_ptr(),
+                        out.len(),
+                    )
+                };
+                digest(&out)
+            },
+            move || {
+                let (key, value) = black_box((&other_key[..], &other_value[..]));
+                u64::from(validate_checksum_group(key, value, Validation::Disk).is_err())
+            },
+        );
+    }
+}
+
 fn main() {
     let mut rows = Vec::new();
     checksum(&mut rows);
+    units(&mut rows);
     root(&mut rows);
+    selection(&mut rows);
     pages(&mut rows);
     lookups(&mut rows);
     slots(&mut rows);
+    groups(&mut rows);
 
     println!("| benchmark | ours ns | Rust ns | ratio |");
     println!("|---|---|---|---|");

@@ -33,7 +33,7 @@ use Rattle.root.specs.Root as root
 use Rattle.root.specs.Root.{labelLength, labelText, rootOf, placeDemands, checkPlace, envelopeDemands, checkEnvelope, textDemands, checkText, labelFieldDemands, checkLabel, blockDemands, checkBlock, rootRefused, rootDemands, rootDecode}
 use Rattle.root.specs.Select.{selectionRefused, oneRoot, none, selectRoot, supportedRoot, choiceDemands, chooseRoot}
 use Rattle.claims.specs.Answers.{isIn, isAnswer, AnswersIn}
-use Rattle.claims.specs.Classes.{Classes}
+use Rattle.claims.specs.Classes.{rootClasses, pageClasses, groupClasses, unitClasses, Classes}
 use Rattle.claims.proofs.Answers.{Every, ends, content-answers, root-fields-answers, chosen-answers}
 
 abbrev Of : List ℕ → Error → Type 0
@@ -184,18 +184,15 @@ module _ (cs : List ℕ) (passed : isOneOf 0 cs ≡ true) (three : isOneOf 3 cs 
           ends (Of cs) (λ (d : Decoded). Within cs (d .answer)) rootRefused (record { answer = Passed; root = rootOf s }) (λ e g. record { within = g }) (record { within = passed }) (rootDemands s slot blocks)
           (kept (block-in s slot blocks), (kept (disk (root-fields-answers (rootOf s) slot blocks Disk)), tt))
 
-abbrev root-classes : List ℕ
-root-classes = 0 ∷ 1 ∷ 2 ∷ 3 ∷ 4 ∷ []
+decoded-in : (s : List ℕ) (slot blocks : ℕ) → Within rootClasses (rootDecode s slot blocks .answer)
+decoded-in = root-in rootClasses refl refl refl refl refl
 
-decoded-in : (s : List ℕ) (slot blocks : ℕ) → Within root-classes (rootDecode s slot blocks .answer)
-decoded-in = root-in root-classes refl refl refl refl refl
-
-supported-root-in : (s : List ℕ) (slot blocks : ℕ) → Within root-classes (supportedRoot (rootDecode s slot blocks) .answer)
-supported-root-in s slot blocks = supported-in root-classes refl refl refl refl (rootDecode s slot blocks) (decoded-in s slot blocks)
+supported-root-in : (s : List ℕ) (slot blocks : ℕ) → Within rootClasses (supportedRoot (rootDecode s slot blocks) .answer)
+supported-root-in s slot blocks = supported-in rootClasses refl refl refl refl (rootDecode s slot blocks) (decoded-in s slot blocks)
 
 -- class 2 has reason 0 here: the string isn't in the list of reasons
 abbrev UnitAnswer : Number → Type 0
-UnitAnswer n = (isOneOf (checkClass (numberCheck n)) (0 ∷ 2 ∷ []) ≡ true) × (checkReason (numberCheck n) ≡ 0)
+UnitAnswer n = (isOneOf (checkClass (numberCheck n)) unitClasses ≡ true) × (checkReason (numberCheck n) ≡ 0)
 
 unit-in : (uuid : List ℕ) (object unit : ℕ) (valid : List ℕ) → UnitAnswer (dataUnitCrc uuid object unit valid)
 unfolding dataUnitCrc
@@ -206,9 +203,9 @@ pub classes : Classes
 classes = record {
   root = λ s slot blocks. decoded-in s slot blocks .within;
   choice = λ s slot blocks t place size.
-      choice-in root-classes refl refl refl refl (supportedRoot (rootDecode s slot blocks)) (supportedRoot (rootDecode t place size)) (supported-root-in s slot blocks) (supported-root-in t place size) .within;
-  page = page-in (0 ∷ 2 ∷ 3 ∷ 4 ∷ []) refl refl refl refl;
-  group = λ key value. group-in (0 ∷ 3 ∷ []) refl refl key value .within;
-  slot = slot-in (0 ∷ 3 ∷ []) refl refl;
+      choice-in rootClasses refl refl refl refl (supportedRoot (rootDecode s slot blocks)) (supportedRoot (rootDecode t place size)) (supported-root-in s slot blocks) (supported-root-in t place size) .within;
+  page = page-in pageClasses refl refl refl refl;
+  group = λ key value. group-in groupClasses refl refl key value .within;
+  slot = slot-in groupClasses refl refl;
   unit = unit-in;
 }
