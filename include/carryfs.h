@@ -1,13 +1,13 @@
 /*
- * The proved reader of carryfs volumes, for C. Link target/staticlib/libcarryfs.a (rt staticlib carryfs).
+ * The proved reader of carryfs volumes, for C. Link target/staticlib/libcarryfs.a (rt staticlib carryfs, for x86-64).
  *
  * Each function reads what it is lent and answers; it allocates nothing and keeps nothing, and may be called from any thread.
  * A part of memory is a pointer and a number of elements, all of them there while the call runs. No pointer may be NULL, also
  * where the number is 0, and each is aligned as its type asks. What is written (out, text, scratch) may not overlap anything else
  * that the call is lent; what is only read may. Nobody else may write what is lent, nor read what is written, during the call.
  *
- * But for the two checksums, the answer of a call is words at the front of `out`; elements beyond them are left as they were. The
- * result is a status:
+ * But for carryfs_crc32c and carryfs_extend, the answer of a call is words at the front of `out`; elements beyond them are left as
+ * they were. The result is a status:
  *   CARRYFS_DONE       the answer is in `out`
  *   CARRYFS_NO_ROOM    `out` (or `text`) is shorter than the answer; nothing was written, the scratch neither
  *   CARRYFS_NOT_ASKED  carryfs_page and carryfs_data_unit: an argument means nothing; nothing was written. It comes before NO_ROOM
@@ -37,8 +37,9 @@ uint32_t carryfs_crc32c(const uint8_t *bytes, size_t length);
 uint32_t carryfs_extend(uint32_t crc_register, const uint8_t *bytes, size_t length);
 
 /* The word that a checksum group holds for the unit `unit` of the file `object`: the CRC-32C of a tag, the volume's UUID, both
- * numbers, how many bytes are valid, the valid bytes, and zeros up to 65,536. Class 0, or class 2 with reason 0 where not 1 to
- * 65,536 bytes are valid. A UUID that isn't 16 bytes is CARRYFS_NOT_ASKED. */
+ * numbers, how many bytes are valid, the valid bytes, and zeros, so that these two are 65,536 bytes. Slot s of group g is for unit
+ * 256 g + s. Class 0, or class 2 with reason 0 where not 1 to 65,536 bytes are valid. A UUID that isn't 16 bytes is
+ * CARRYFS_NOT_ASKED. */
 #define CARRYFS_UNIT_CLASS 0
 #define CARRYFS_UNIT_REASON 1
 #define CARRYFS_UNIT_WORD 2
@@ -88,7 +89,8 @@ uint32_t carryfs_root(const uint8_t *bytes, size_t length, uint64_t slot, uint64
 
 /* The current root of two slots' blocks, each as carryfs_root reads it. A block refused with class 3 counts as no root; a refusal
  * of another class is the answer, the first's before the second's. Of two roots the one with the higher generation is chosen, the
- * first where they are equal. Class 0; 1, 2 or 4 as carryfs_root answers it; 3 where there is no root or the two conflict. */
+ * first where they are equal. Class 0; 1, 2 or 4 as carryfs_root answers it; 3 where there is no root or the two conflict:
+ * their UUIDs differ, or their generations are equal and another field isn't. carryfs_root gives the chosen one's fields. */
 #define CARRYFS_SELECT_CLASS 0
 #define CARRYFS_SELECT_REASON 1
 #define CARRYFS_SELECT_WHICH 2 /* 1 for the first, 2 for the second */

@@ -204,7 +204,10 @@ static int read_bodies(FILE *file, struct root *roots, int *found)
             return 0;
         }
         if (fread(body, 1, length, file) != length) {
-            printf("the file ends within a %s\n", kind == 1 ? "root" : "page");
+            if (ferror(file))
+                printf("the file can't be read to its end\n");
+            else
+                printf("the file ends within a %s\n", kind == 1 ? "root" : "page");
             return 0;
         }
         if (kind == 1) {
@@ -277,5 +280,11 @@ int main(int count, char **words)
         printf("fewer than two roots: none is chosen\n");
         return 1;
     }
-    return choose(&roots[0], &roots[1]) ? 0 : 1;
+    if (!choose(&roots[0], &roots[1]))
+        return 1;
+    if (fflush(stdout) != 0 || ferror(stdout)) {
+        perror("standard output");
+        return 1;
+    }
+    return 0;
 }

@@ -87,6 +87,9 @@ fn reference(top: &Path) {
 }
 
 fn main() {
+    if env::var("CARGO_CFG_TARGET_ARCH").as_deref() != Ok("x86_64") {
+        fail("libcarryfs.a is for x86-64 alone");
+    }
     changed(Path::new("build.rs"));
     let here = env::var_os("CARGO_MANIFEST_DIR").map(PathBuf::from).unwrap_or_default();
     let top = here.join("../..");

@@ -295,7 +295,7 @@ pub enum TreeKind {
 #[derive(Clone, Copy, Debug, PartialEq, Eq)]
 pub struct PageView<'a> {
     pub level: u8,
-    /// The data blocks of the subtree.
+    /// The data blocks of the subtree, as the page states them; 0 outside the catalog.
     pub data_blocks: u64,
     pub count: usize,
     pub payload: &'a [u8],
@@ -315,7 +315,7 @@ pub fn decode_page<'a>(
     // 255 means that no level is given; a page has none above 7, so 254 is refused as 255 is.
     let level = level.map_or(CARRYFS_ANY_LEVEL as u32, |level| u32::from(level.min(254)));
     let mut out = [0; CARRYFS_PAGE_WORDS];
-    // Safe: the slices live for the call and don't overlap; the function writes `out` within its length and nothing else.
+    // Safe: the slices live for the call; the function writes `out`, which overlaps none of them, within its length and nothing else.
     let status = unsafe {
         carryfs_page(
             bytes.as_ptr(),
@@ -353,7 +353,7 @@ impl<'a> PageView<'a> {
     /// `count` entries the records are halved, with a shorter one walked.
     pub fn floor_record(&self, key: &[u8], scratch: &mut [u16]) -> Option<(usize, Records<'a>)> {
         let mut out = [0; CARRYFS_FLOOR_WORDS];
-        // Safe: the slices live for the call and don't overlap; the function writes `scratch` and `out` within their lengths.
+        // Safe: the slices live for the call; the function writes `scratch` and `out`, which overlap nothing else, within their lengths.
         let status = unsafe {
             carryfs_lookup(
                 self.payload.as_ptr(),

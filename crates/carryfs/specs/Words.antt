@@ -92,7 +92,7 @@ rootWords d =
 unfoldable pub rootText : Root → List ℕ
 rootText r = r .uuid ++ r .label .bytes
 
--- the root in a slot's block, as far as the choice goes by it
+-- what `supported_root` makes of the root in a slot's block
 abbrev pub slotRoot : List ℕ → ℕ → ℕ → Supported
 slotRoot bytes slot blocks = supportedRoot (rootDecode bytes slot blocks)
 
@@ -115,11 +115,11 @@ askedPage bytes block generation uuid kind parent level blocks =
 
 -- ---- beside a refusal
 
--- where the class isn't 0, every word behind class and reason is
+-- where the class isn't 0, every word behind class and reason is 0
 abbrev pub Bare : List ℕ → Type 0
 Bare words = (getD words 0 0 ≡ 0 → ⊥) → allZero (drop 2 words) ≡ true
 
--- call by call; a root's text too
+-- call by call (`carryfs_group` has no other words); a root's text too
 pub record BesideRefusals : Type 0 where
   pub slot : (s : Slot) → Bare (slotWords s)
   pub unit : (n : Number) → Bare (unitWords n)

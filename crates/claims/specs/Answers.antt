@@ -52,12 +52,12 @@ abbrev pub isAnswer : ℕ → ℕ → Bool
 isAnswer class reason =
     ((eqb class 0 || (eqb class 1 || eqb class 4)) && eqb reason 0) || ((eqb class 2 || (eqb class 3 || eqb class 6)) && isReason reason)
 
--- in mode Disk nothing is the caller's error: classes 1, 2 and 6 aren't answered
+-- which classes a mode has: in mode Disk nothing is the caller's error, so none of 1, 2 and 6; mode Input rules none out
 abbrev pub isIn : Validation → ℕ → Bool
 isIn Input class = true
 isIn Disk class = eqb class 0 || (eqb class 3 || eqb class 4)
 
--- both, of a call that goes by a mode
+-- a class and a reason of the table, in a mode that has the class
 abbrev pub isAnswerIn : Validation → ℕ → ℕ → Bool
 isAnswerIn mode class reason = isIn mode class && isAnswer class reason
 
@@ -65,7 +65,7 @@ isAnswerIn mode class reason = isIn mode class && isAnswer class reason
 pub record AnswersIn (mode : Validation) (c : Check) : Type 0 where
   pub told : isAnswerIn mode (checkClass c) (checkReason c) ≡ true
 
--- the same of a call that goes by no mode
+-- a check that goes by no mode: the table alone, as in mode Input
 abbrev pub Answers : Check → Type 0
 Answers c = AnswersIn Input c
 
@@ -77,7 +77,7 @@ NumberAnswersIn mode n = AnswersIn mode (numberCheck n)
 abbrev pub NumberAnswers : Number → Type 0
 NumberAnswers n = Answers (numberCheck n)
 
--- so does a call that gives a page's numbers
+-- a call that gives a page's numbers answers a class and a reason of the table
 abbrev pub PageAnswers : Page → Type 0
 PageAnswers p = isAnswer (p .class) (p .reason) ≡ true
 

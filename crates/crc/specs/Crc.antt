@@ -1,6 +1,6 @@
 -- CRC-32C (01, section 1), one bit at a time, in a register.
--- RFC 3720, section 12.1, says it as a division: the message, each byte's lowest bit first and the first 32 bits complemented, by the polynomial
--- 0x11EDC6F41; the remainder is complemented. The register, which is 01's form, holds the remainder in reverse, the highest power lowest.
+-- RFC 3720, section 12.1, says it as a division: the message, each byte's lowest bit first and the first 32 bits complemented, times x^32, by the
+-- polynomial 0x11EDC6F41; the remainder is complemented. The register, which is 01's form, holds the remainder in reverse, the highest power lowest.
 use Prim.Native.Nat.{ℕ, zero, suc, _*_, _/_, _%_}
 use mathlib.Core.List.{List, [], _∷_}
 use lib.Bits.{bitXor}

@@ -14,11 +14,11 @@ use Rattle.crc.specs.Crc.{crc32c}
 abbrev pub unitBytes : ℕ
 unitBytes = 65536
 
--- crc.rs, `data_unit_crc`: the text CFSXDATA
+-- crc.rs, `DataUnitCrc::new`: the text CFSXDATA
 abbrev pub tag : List ℕ
 tag = 0x43 ∷ 0x46 ∷ 0x53 ∷ 0x58 ∷ 0x44 ∷ 0x41 ∷ 0x54 ∷ 0x41 ∷ []
 
--- crc.rs, `data_unit_crc`: the bytes that are summed: the tag, whose unit it is (UUID, object, number of the unit), how many of its bytes are valid, those, and zeros up to the unit's end
+-- crc.rs, `DataUnitCrc::new` and `finish`: the bytes that are summed: the tag, whose unit it is (UUID, object, number of the unit), how many of its bytes are valid, those, and zeros up to the unit's end
 unfoldable pub dataUnit : List ℕ → ℕ → ℕ → List ℕ → List ℕ
 dataUnit uuid object unit valid =
     tag ++ uuid ++ littleBytes 8 object ++ littleBytes 8 unit ++ littleBytes 4 (length valid) ++ valid ++ replicate (unitBytes - length valid) 0
@@ -27,7 +27,7 @@ dataUnit uuid object unit valid =
 abbrev pub unlisted : ℕ
 unlisted = 0
 
--- crc.rs, `data_unit_crc`: a unit has a valid byte, and no more than it has bytes; otherwise class 2
+-- crc.rs, `DataUnitCrc::new`: a unit has a valid byte, and no more than it has bytes; otherwise class 2
 abbrev pub dataUnitDemands : List ℕ → List Demand
 dataUnitDemands valid = (leb 1 (length valid) && leb (length valid) unitBytes) otherwise InvalidInput unlisted ∷ []
 

@@ -93,11 +93,11 @@ supportedRoot d =
     (cond (eqb (checkClass (d .answer)) 3) (record { answer = Passed; found = none })
     (record { answer = d .answer; found = none }))
 
--- section 3, of two slots: what `supported_root` passes on is the answer, the first's before the second's
+-- READING-RULES 6.4 (01 and the Rust leave it to callers): of two slots, what `supported_root` passes on is the answer, the first's before the second's
 abbrev pub choiceDemands : Supported → Supported → List Demand
 choiceDemands a b = passing (a .answer) ∷ passing (b .answer) ∷ []
 
--- otherwise `select_root`
+-- where both passed, `select_root` answers on the roots that are there
 unfoldable pub chooseRoot : Supported → Supported → Selected
 chooseRoot a b = outcome (choiceDemands a b) selectionRefused (selectRoot (a .found) (b .found))
 

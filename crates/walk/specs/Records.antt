@@ -55,7 +55,7 @@ childRules c key value = childBlock (validateInternalRecord (c .kind) key value 
 abbrev pub ownAnswer : Own → List ℕ → Number
 ownAnswer own rest = own (keyOf rest) (valueOf rest)
 
--- a block is one of a list
+-- a number is one of a list
 abbrev pub isOneOf : ℕ → List ℕ → Bool
 isOneOf n [] = false
 isOneOf n (m ∷ ms) = eqb m n || isOneOf n ms
