@@ -67,31 +67,24 @@ fn answer(call: u8, n: Numbers, a: &[u8], b: &[u8], out: &mut [u8], at: usize) -
     }
 }
 
-fn told(input: &[u8], numbers: &[u64], texts: &[usize], out: &mut [u8], at: usize) -> usize {
+fn told(input: &[u8], out: &mut [u8], at: usize) -> usize {
     let call = octets::byte_at(input, 0);
     if call == 41 {
-        return output::fields(out, at, roots::selected(input, numbers, texts));
+        return output::fields(out, at, roots::selected(input));
     }
-    let n = arguments::first_numbers(numbers);
-    let a = arguments::text(input, texts, 0);
-    let b = arguments::text(input, texts, 1);
+    let n = arguments::first_numbers(input);
+    let a = arguments::text(input, 0);
+    let b = arguments::text(input, 1);
     if call == 43 {
-        return pages::handed(n, a, b, arguments::text(input, texts, 2), out, at);
+        return pages::handed(n, a, b, arguments::text(input, 2), out, at);
     }
     answer(call, n, a, b, out, at)
 }
 
 // The line of a call.
-fn line(
-    place: u64,
-    input: &[u8],
-    numbers: &[u64],
-    texts: &[usize],
-    out: &mut [u8],
-    at: usize,
-) -> usize {
+fn line(place: u64, input: &[u8], out: &mut [u8], at: usize) -> usize {
     let placed = report::decimal(out, at, place);
-    let answered = told(input, numbers, texts, out, placed);
+    let answered = told(input, out, placed);
     report::put_byte(out, answered, b'\n')
 }
 
@@ -103,12 +96,10 @@ enum Call {
 }
 
 fn one_call(place: u64, input: &[u8], out: &mut [u8], used: usize) -> Call {
-    let mut numbers = [0u64; 34];
-    let mut texts = [0usize; 8];
-    match shape::read_call(input, &mut numbers, &mut texts) {
+    match shape::read_call(input) {
         Front::Whole(length) => Call::Answered {
             length,
-            end: line(place, input, &numbers, &texts, out, used),
+            end: line(place, input, out, used),
         },
         Front::Short => Call::Short,
         Front::Outside => Call::Outside,
