@@ -145,20 +145,27 @@ fn behind(s: Stand, length: usize, end: usize, out: &[u8]) -> Turn {
     }
 }
 
-fn cut(place: u64, out: &mut [u8], used: usize) -> Turn {
-    let whole = report::cut_line(out, used, place);
-    flush(out, whole);
+fn last_line(place: u64, is_whole: bool, line: &mut [u8]) -> usize {
+    if is_whole {
+        report::end_line(line, 0, place)
+    } else {
+        report::cut_line(line, 0, place)
+    }
+}
+
+// The last line stands in a buffer of its own, and goes out behind those that wait.
+fn last(place: u64, is_whole: bool) -> Turn {
+    let mut line = [0u8; 32];
+    let end = last_line(place, is_whole, &mut line);
+    flush(&line, end);
     Turn::Stop
 }
 
-// The input ends with so many bytes of a call.
-fn last(place: u64, kept: usize, out: &mut [u8]) -> Turn {
-    if kept != 0 {
-        return cut(place, out, 0);
+fn cut(place: u64, out: &[u8], used: usize) -> Turn {
+    if !flush(out, used) {
+        return Turn::Stop;
     }
-    let whole = report::end_line(out, 0, place);
-    flush(out, whole);
-    Turn::Stop
+    last(place, false)
 }
 
 fn failed() -> Turn {
@@ -167,7 +174,7 @@ fn failed() -> Turn {
 }
 
 // Sends the lines that wait, and reads on behind a call that isn't whole.
-fn refilled(s: Stand, window: &mut [u8], out: &mut [u8]) -> Turn {
+fn refilled(s: Stand, window: &mut [u8], out: &[u8]) -> Turn {
     if !flush(out, s.used) {
         return Turn::Stop;
     }
@@ -180,7 +187,7 @@ fn refilled(s: Stand, window: &mut [u8], out: &mut [u8]) -> Turn {
             used: 0,
         }),
         Read::Failed => failed(),
-        _ => last(s.place, kept, out),
+        _ => last(s.place, kept == 0),
     }
 }
 
