@@ -1,4 +1,5 @@
-// A call's numbers and strings, taken apart. What a call doesn't have is 0 or empty.
+// A call's numbers and strings, taken apart. Of what a call doesn't have nothing is said.
+use crate::shape;
 use error::Validation;
 use volume::TreeRef;
 
@@ -13,33 +14,36 @@ pub struct Numbers {
     pub g: u64,
 }
 
-pub fn number(numbers: &[u64], i: usize) -> u64 {
-    if i < numbers.len() { numbers[i] } else { 0 }
-}
-
-pub fn first_numbers(numbers: &[u64]) -> Numbers {
-    Numbers {
-        a: number(numbers, 0),
-        b: number(numbers, 1),
-        c: number(numbers, 2),
-        d: number(numbers, 3),
-        e: number(numbers, 4),
-        f: number(numbers, 5),
-        g: number(numbers, 6),
-    }
-}
-
-fn place(texts: &[usize], i: usize) -> usize {
-    if i < texts.len() { texts[i] } else { 0 }
-}
-
-// A string: its start and its end are kept one behind the other.
-pub fn text<'a>(input: &'a [u8], texts: &[usize], i: usize) -> &'a [u8] {
-    if i < 4 {
-        octets::span(input, place(texts, 2 * i), place(texts, 2 * i + 1))
+// The numbers stand behind the call's byte, eight bytes each.
+pub fn number(input: &[u8], i: usize) -> u64 {
+    if i < 64 {
+        octets::u64_at(input, 8 * i + 1)
     } else {
-        octets::span(input, 0, 0)
+        0
     }
+}
+
+pub fn first_numbers(input: &[u8]) -> Numbers {
+    Numbers {
+        a: octets::u64_at(input, 1),
+        b: octets::u64_at(input, 9),
+        c: octets::u64_at(input, 17),
+        d: octets::u64_at(input, 25),
+        e: octets::u64_at(input, 33),
+        f: octets::u64_at(input, 41),
+        g: octets::u64_at(input, 49),
+    }
+}
+
+// String i, without its length.
+pub fn text(input: &[u8], i: usize) -> &[u8] {
+    let mut at = shape::texts_at(input);
+    let mut left = i;
+    while left > 0 {
+        at = shape::text_end(input, at);
+        left -= 1;
+    }
+    octets::tail(octets::span(input, at, shape::text_end(input, at)), 4)
 }
 
 pub fn word(value: u64) -> u32 {

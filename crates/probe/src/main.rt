@@ -67,31 +67,24 @@ fn answer(call: u8, n: Numbers, a: &[u8], b: &[u8], out: &mut [u8], at: usize) -
     }
 }
 
-fn told(input: &[u8], numbers: &[u64], texts: &[usize], out: &mut [u8], at: usize) -> usize {
+fn told(input: &[u8], out: &mut [u8], at: usize) -> usize {
     let call = octets::byte_at(input, 0);
     if call == 41 {
-        return output::fields(out, at, roots::selected(input, numbers, texts));
+        return output::fields(out, at, roots::selected(input));
     }
-    let n = arguments::first_numbers(numbers);
-    let a = arguments::text(input, texts, 0);
-    let b = arguments::text(input, texts, 1);
+    let n = arguments::first_numbers(input);
+    let a = arguments::text(input, 0);
+    let b = arguments::text(input, 1);
     if call == 43 {
-        return pages::handed(n, a, b, arguments::text(input, texts, 2), out, at);
+        return pages::handed(n, a, b, arguments::text(input, 2), out, at);
     }
     answer(call, n, a, b, out, at)
 }
 
 // The line of a call.
-fn line(
-    place: u64,
-    input: &[u8],
-    numbers: &[u64],
-    texts: &[usize],
-    out: &mut [u8],
-    at: usize,
-) -> usize {
+fn line(place: u64, input: &[u8], out: &mut [u8], at: usize) -> usize {
     let placed = report::decimal(out, at, place);
-    let answered = told(input, numbers, texts, out, placed);
+    let answered = told(input, out, placed);
     report::put_byte(out, answered, b'\n')
 }
 
@@ -103,12 +96,10 @@ enum Call {
 }
 
 fn one_call(place: u64, input: &[u8], out: &mut [u8], used: usize) -> Call {
-    let mut numbers = [0u64; 34];
-    let mut texts = [0usize; 8];
-    match shape::read_call(input, &mut numbers, &mut texts) {
+    match shape::read_call(input) {
         Front::Whole(length) => Call::Answered {
             length,
-            end: line(place, input, &numbers, &texts, out, used),
+            end: line(place, input, out, used),
         },
         Front::Short => Call::Short,
         Front::Outside => Call::Outside,
@@ -154,20 +145,27 @@ fn behind(s: Stand, length: usize, end: usize, out: &[u8]) -> Turn {
     }
 }
 
-fn cut(place: u64, out: &mut [u8], used: usize) -> Turn {
-    let whole = report::cut_line(out, used, place);
-    flush(out, whole);
+fn last_line(place: u64, is_whole: bool, line: &mut [u8]) -> usize {
+    if is_whole {
+        report::end_line(line, 0, place)
+    } else {
+        report::cut_line(line, 0, place)
+    }
+}
+
+// The last line stands in a buffer of its own, and goes out behind those that wait.
+fn last(place: u64, is_whole: bool) -> Turn {
+    let mut line = [0u8; 32];
+    let end = last_line(place, is_whole, &mut line);
+    flush(&line, end);
     Turn::Stop
 }
 
-// The input ends with so many bytes of a call.
-fn last(place: u64, kept: usize, out: &mut [u8]) -> Turn {
-    if kept != 0 {
-        return cut(place, out, 0);
+fn cut(place: u64, out: &[u8], used: usize) -> Turn {
+    if !flush(out, used) {
+        return Turn::Stop;
     }
-    let whole = report::end_line(out, 0, place);
-    flush(out, whole);
-    Turn::Stop
+    last(place, false)
 }
 
 fn failed() -> Turn {
@@ -176,7 +174,7 @@ fn failed() -> Turn {
 }
 
 // Sends the lines that wait, and reads on behind a call that isn't whole.
-fn refilled(s: Stand, window: &mut [u8], out: &mut [u8]) -> Turn {
+fn refilled(s: Stand, window: &mut [u8], out: &[u8]) -> Turn {
     if !flush(out, s.used) {
         return Turn::Stop;
     }
@@ -189,7 +187,7 @@ fn refilled(s: Stand, window: &mut [u8], out: &mut [u8]) -> Turn {
             used: 0,
         }),
         Read::Failed => failed(),
-        _ => last(s.place, kept, out),
+        _ => last(s.place, kept == 0),
     }
 }
 

@@ -40,19 +40,11 @@ pub fn hex_entries(out: &mut [u8], at: usize, entries: &[u16]) -> usize {
     used
 }
 
-fn counted(out: &mut [u8], at: usize, value: u64, counts: bool) -> usize {
-    if counts {
-        report::number_field(out, at, value)
-    } else {
-        at
-    }
-}
-
 // The first `count` numbers.
 pub fn numbers(out: &mut [u8], at: usize, values: &[u64], count: usize) -> usize {
     let mut used = at;
-    for i in 0..values.len() {
-        used = counted(out, used, values[i], i < count);
+    for i in 0..octets::lesser(count, values.len()) {
+        used = report::number_field(out, used, values[i]);
     }
     used
 }

@@ -35,25 +35,14 @@ fn floor_over(
     output::hex_entries(out, told, scratch)
 }
 
-// The scratch is the front of what is lent.
-fn floor_in(
-    n: Numbers,
-    payload: &[u8],
-    key: &[u8],
-    space: &mut [u16],
-    out: &mut [u8],
-    at: usize,
-) -> usize {
+// The scratch has as many entries as the call says.
+pub fn floor(n: Numbers, payload: &[u8], key: &[u8], out: &mut [u8], at: usize) -> usize {
     let length = n.b as usize;
-    if space.len() < length {
+    if 4096 < length {
         return at;
     }
-    floor_over(n, payload, key, &mut space[0..length], out, at)
-}
-
-pub fn floor(n: Numbers, payload: &[u8], key: &[u8], out: &mut [u8], at: usize) -> usize {
     let mut scratch = [short(n.c); 4096];
-    floor_in(n, payload, key, &mut scratch, out, at)
+    floor_over(n, payload, key, &mut scratch[0..length], out, at)
 }
 
 fn next_record(remaining: u64, payload: &[u8]) -> Fields {
@@ -167,18 +156,9 @@ fn told_first(f: First) -> Fields {
     Fields { count: 7, values }
 }
 
-// The first record of a lookup on a page's view, and the scratch as it is left.
-fn handed_over(
-    n: Numbers,
-    uuid: &[u8],
-    page: &[u8],
-    key: &[u8],
-    scratch: &mut [u16],
-    out: &mut [u8],
-    at: usize,
-) -> usize {
+fn handed_out(n: Numbers, uuid: &[u8], page: &[u8], key: &[u8], scratch: &mut [u16]) -> Handed {
     let id = octets::copy16(uuid);
-    let handed = hand::hand_out(
+    hand::hand_out(
         page,
         reference(n.a, n.b),
         &id,
@@ -188,27 +168,28 @@ fn handed_over(
         n.f,
         key,
         scratch,
-    );
-    let viewed = output::fields(out, at, told_view(handed));
-    let first = handed.first;
+    )
+}
+
+// The first record of a lookup on a page's view, and the scratch as it is left.
+fn put_handed(h: Handed, scratch: &[u16], out: &mut [u8], at: usize) -> usize {
+    let viewed = output::fields(out, at, told_view(h));
+    let first = h.first;
     let told = output::fields(out, viewed, told_first(first));
     output::hex_entries(out, told, scratch)
 }
 
-fn handed_in(
+fn handed_over(
     n: Numbers,
     uuid: &[u8],
     page: &[u8],
     key: &[u8],
-    space: &mut [u16],
+    scratch: &mut [u16],
     out: &mut [u8],
     at: usize,
 ) -> usize {
-    let length = n.g as usize;
-    if space.len() < length {
-        return at;
-    }
-    handed_over(n, uuid, page, key, &mut space[0..length], out, at)
+    let h = handed_out(n, uuid, page, key, scratch);
+    put_handed(h, scratch, out, at)
 }
 
 // The scratch's entries are 65,535 before the lookup.
@@ -220,8 +201,12 @@ pub fn handed(
     out: &mut [u8],
     at: usize,
 ) -> usize {
+    let length = n.g as usize;
+    if 4096 < length {
+        return at;
+    }
     let mut scratch = [65_535u16; 4096];
-    handed_in(n, uuid, page, key, &mut scratch, out, at)
+    handed_over(n, uuid, page, key, &mut scratch[0..length], out, at)
 }
 
 // Calls 36 to 38, 40 and 42.

@@ -19,26 +19,23 @@ fn is_passed(c: Check) -> bool {
     error::check_class(c) == 0
 }
 
-// The bytes beside an accepted answer, `x` beside a refusal.
-fn put_text(out: &mut [u8], at: usize, text: &[u8], accepted: bool) -> usize {
-    if accepted {
-        output::hex(out, at, text)
-    } else {
-        octets::put(out, at, b" x")
-    }
+// How much of a text is printed: all of it beside an accepted answer, nothing beside a refusal.
+fn width(c: Check) -> usize {
+    if is_passed(c) { 255 } else { 0 }
 }
 
-fn put_label(out: &mut [u8], at: usize, label: Label, accepted: bool) -> usize {
-    let sized = report::number_field(out, at, label.len as u64);
+fn put_bytes(out: &mut [u8], at: usize, label: Label, width: usize) -> usize {
     let bytes = label.bytes;
-    put_text(out, sized, &bytes, accepted)
+    output::hex(out, at, octets::span(&bytes, 0, width))
 }
 
 pub fn label(given: &[u8], out: &mut [u8], at: usize) -> usize {
     let made = Label::new(given);
     let answer = made.answer;
+    let label = made.label;
     let told = output::fields(out, at, check(answer));
-    put_label(out, told, made.label, is_passed(answer))
+    let sized = report::number_field(out, told, label.len as u64);
+    put_bytes(out, sized, label, width(answer))
 }
 
 fn one_or_zero(is: bool) -> u64 {
@@ -72,29 +69,19 @@ fn numbers_of(root: Root) -> [u64; 16] {
     ]
 }
 
-fn put_numbers(out: &mut [u8], at: usize, root: Root) -> usize {
+fn put_root(out: &mut [u8], at: usize, root: Root, width: usize) -> usize {
     let values = numbers_of(root);
-    output::numbers(out, at, &values, 16)
-}
-
-fn put_texts(out: &mut [u8], at: usize, root: Root, accepted: bool) -> usize {
+    let told = output::numbers(out, at, &values, 16);
     let uuid = root.uuid;
-    let behind = put_text(out, at, &uuid, accepted);
-    let label = root.label;
-    let bytes = label.bytes;
-    put_text(out, behind, &bytes, accepted)
-}
-
-fn put_root(out: &mut [u8], at: usize, root: Root, accepted: bool) -> usize {
-    let numbers = put_numbers(out, at, root);
-    put_texts(out, numbers, root, accepted)
+    let named = output::hex(out, told, octets::span(&uuid, 0, width));
+    put_bytes(out, named, root.label, width)
 }
 
 pub fn decoded(n: Numbers, block: &[u8], out: &mut [u8], at: usize) -> usize {
     let decoded = Root::decode(block, n.a, n.b);
     let answer = decoded.answer;
     let told = output::fields(out, at, check(answer));
-    put_root(out, told, decoded.root, is_passed(answer))
+    put_root(out, told, decoded.root, width(answer))
 }
 
 fn supported(block: &[u8], slot: u64, blocks: u64) -> Supported {
@@ -124,63 +111,63 @@ pub fn choice(n: Numbers, first: &[u8], second: &[u8]) -> Fields {
 }
 
 // A number of the root whose numbers start at a place.
-fn given(numbers: &[u64], start: usize, i: usize) -> u64 {
+fn given(input: &[u8], start: usize, i: usize) -> u64 {
     if 64 <= start {
         return 0;
     }
     if 64 <= i {
         return 0;
     }
-    number(numbers, start + i)
+    number(input, start + i)
 }
 
-fn given_reference(numbers: &[u64], start: usize, i: usize) -> TreeRef {
+fn given_reference(input: &[u8], start: usize, i: usize) -> TreeRef {
     if i < 64 {
-        reference(given(numbers, start, i), given(numbers, start, i + 1))
+        reference(given(input, start, i), given(input, start, i + 1))
     } else {
         reference(0, 0)
     }
 }
 
-fn given_label(numbers: &[u64], start: usize, text: &[u8]) -> Label {
+fn given_label(input: &[u8], start: usize, text: &[u8]) -> Label {
     let bytes = octets::copy255(text);
     Label {
-        len: byte(given(numbers, start, 2)),
+        len: byte(given(input, start, 2)),
         bytes,
     }
 }
 
 // A made-up root.
-fn given_root(numbers: &[u64], start: usize, uuid: &[u8], text: &[u8]) -> Root {
-    let label = given_label(numbers, start, text);
+fn given_root(input: &[u8], start: usize, uuid: &[u8], text: &[u8]) -> Root {
+    let label = given_label(input, start, text);
     let id = octets::copy16(uuid);
     Root {
-        has_label: given(numbers, start, 1) == 1,
+        has_label: given(input, start, 1) == 1,
         label,
         uuid: id,
-        generation: given(numbers, start, 3),
-        blocks: given(numbers, start, 4),
-        catalog: given_reference(numbers, start, 5),
-        allocation: given_reference(numbers, start, 7),
-        cleanup: given_reference(numbers, start, 9),
-        next_object: given(numbers, start, 11),
-        free_blocks: given(numbers, start, 12),
-        next_job: given(numbers, start, 13),
-        workspace: given_reference(numbers, start, 14),
-        workspace_cursor: given(numbers, start, 16),
+        generation: given(input, start, 3),
+        blocks: given(input, start, 4),
+        catalog: given_reference(input, start, 5),
+        allocation: given_reference(input, start, 7),
+        cleanup: given_reference(input, start, 9),
+        next_object: given(input, start, 11),
+        free_blocks: given(input, start, 12),
+        next_job: given(input, start, 13),
+        workspace: given_reference(input, start, 14),
+        workspace_cursor: given(input, start, 16),
     }
 }
 
-fn maybe_root(numbers: &[u64], start: usize, uuid: &[u8], text: &[u8]) -> MaybeRoot {
-    let root = given_root(numbers, start, uuid, text);
+fn maybe_root(input: &[u8], start: usize, uuid: &[u8], text: &[u8]) -> MaybeRoot {
+    let root = given_root(input, start, uuid, text);
     MaybeRoot {
-        present: given(numbers, start, 0) == 1,
+        present: given(input, start, 0) == 1,
         root,
     }
 }
 
-pub fn selected(input: &[u8], numbers: &[u64], texts: &[usize]) -> Fields {
-    let a = maybe_root(numbers, 0, text(input, texts, 0), text(input, texts, 1));
-    let b = maybe_root(numbers, 17, text(input, texts, 2), text(input, texts, 3));
+pub fn selected(input: &[u8]) -> Fields {
+    let a = maybe_root(input, 0, text(input, 0), text(input, 1));
+    let b = maybe_root(input, 17, text(input, 2), text(input, 3));
     selection(root::select_root(a, b), 3)
 }

@@ -2,7 +2,7 @@
 
 // What stands at the front of the input.
 pub enum Front {
-    // A whole call, or its numbers, and where that ends.
+    // A whole call, or a part of it, and where that ends.
     Whole(usize),
     // The input ends inside it.
     Short,
@@ -10,7 +10,7 @@ pub enum Front {
     Outside,
 }
 
-// A row for each call from 0 on, 0 where there is none. A row is read from the right: seven digits for the numbers, then four for the
+// A row for each call from 0 on, 0 where there is none; call 41 has rows of its own. A row is read from the right: seven digits for the numbers, then four for the
 // strings, 0 for none. A number's digit says its limit: 1 none, 2 below 2^32, 3 at most 65,535, 4 from 1 to 4, 6 at most 1,000,000,
 // b at most 255, e at most 4,096, f 0 or 1. A string's says its length: 1 at most 80,000 bytes, a 16 bytes, c 255 bytes.
 const ROWS: [u64; 44] = [
@@ -55,7 +55,7 @@ const ROWS: [u64; 44] = [
     0x0001_0000000,
     0x0011_00003e1,
     0x0001_0000001,
-    0xcaca_0000000,
+    0x0000_0000000,
     0x0001_11f11b4,
     0x011a_e1b1411,
 ];
@@ -92,18 +92,6 @@ fn is_allowed_length(digit: u64, length: usize) -> bool {
     }
 }
 
-fn keep(numbers: &mut [u64], i: usize, value: u64) {
-    if i < numbers.len() {
-        numbers[i] = value;
-    }
-}
-
-fn keep_place(texts: &mut [usize], i: usize, place: usize) {
-    if i < texts.len() {
-        texts[i] = place;
-    }
-}
-
 // The place behind so many bytes from a place of the input on.
 fn read_bytes(input: &[u8], at: usize, length: usize) -> Front {
     if input.len() < length {
@@ -126,59 +114,35 @@ fn read_number(digit: u64, input: &[u8], at: usize) -> Front {
     front
 }
 
-// The place behind the length of a string.
-fn read_length(digit: u64, input: &[u8], at: usize) -> Front {
+// A string's length, and as many bytes.
+fn read_text(digit: u64, input: &[u8], at: usize) -> Front {
     let front = read_bytes(input, at, 4);
-    let Front::Whole(_) = front else {
-        return front;
-    };
-    if !is_allowed_length(digit, octets::u32_at(input, at) as usize) {
-        return Front::Outside;
-    }
-    front
-}
-
-// The numbers from a place on; the first of a call stands at 1.
-fn read_numbers(digits: u64, input: &[u8], start: usize, numbers: &mut [u64]) -> Front {
-    let mut at = start;
-    let mut rest = digits;
-    while rest > 0 {
-        let front = read_number(rest % 16, input, at);
-        let Front::Whole(end) = front else {
-            return front;
-        };
-        keep(numbers, at / 8, octets::u64_at(input, at));
-        at = end;
-        rest = rest / 16;
-    }
-    Front::Whole(at)
-}
-
-// Keeps the start and the end of string i, one behind the other.
-fn read_text(digit: u64, input: &[u8], at: usize, texts: &mut [usize], i: usize) -> Front {
-    if digit == 0 {
-        return Front::Whole(at);
-    }
-    let front = read_length(digit, input, at);
     let Front::Whole(start) = front else {
         return front;
     };
-    let body = read_bytes(input, start, octets::u32_at(input, at) as usize);
-    let Front::Whole(end) = body else {
-        return body;
-    };
-    if i < 4 {
-        keep_place(texts, 2 * i, start);
-        keep_place(texts, 2 * i + 1, end);
+    let length = octets::u32_at(input, at) as usize;
+    if !is_allowed_length(digit, length) {
+        return Front::Outside;
     }
-    body
+    read_bytes(input, start, length)
 }
 
-fn read_texts(digits: u64, input: &[u8], start: usize, texts: &mut [usize]) -> Front {
+fn read_one(i: usize, digit: u64, input: &[u8], at: usize) -> Front {
+    if digit == 0 {
+        return Front::Whole(at);
+    }
+    if i < 7 {
+        return read_number(digit, input, at);
+    }
+    read_text(digit, input, at)
+}
+
+// The numbers and strings of a row, from a place on.
+fn read_row(row: u64, input: &[u8], start: usize) -> Front {
     let mut at = start;
-    let mut rest = digits;
-    for i in 0..4 {
-        let front = read_text(rest % 16, input, at, texts, i);
+    let mut rest = row;
+    for i in 0..11 {
+        let front = read_one(i, rest % 16, input, at);
         let Front::Whole(end) = front else {
             return front;
         };
@@ -188,39 +152,58 @@ fn read_texts(digits: u64, input: &[u8], start: usize, texts: &mut [usize]) -> F
     Front::Whole(at)
 }
 
-// The 34 numbers of call 41: present, has label, label length and 14 more, for each of two roots.
-fn read_roots(input: &[u8], numbers: &mut [u64]) -> Front {
-    let first = read_numbers(0x1111_1111_1111_1bff, input, 1, numbers);
-    let Front::Whole(at) = first else {
-        return first;
-    };
-    let second = read_numbers(0x1111_1111_1111_bff1, input, at, numbers);
-    let Front::Whole(behind) = second else {
-        return second;
-    };
-    read_numbers(0x11, input, behind, numbers)
-}
-
-fn read_front(call: u8, row: u64, input: &[u8], numbers: &mut [u64]) -> Front {
-    if call == 41 {
-        return read_roots(input, numbers);
+// Call 41 has the rows of 34 numbers: present, has label, label length and 14 more, for each of two roots.
+fn read_roots(rows: &[u64], input: &[u8]) -> Front {
+    let mut at = 1;
+    for i in 0..rows.len() {
+        let front = read_row(rows[i], input, at);
+        let Front::Whole(end) = front else {
+            return front;
+        };
+        at = end;
     }
-    read_numbers(row % 0x1000_0000, input, 1, numbers)
+    Front::Whole(at)
 }
 
-// The call at the front of the input: its numbers and where its strings stand.
-pub fn read_call(input: &[u8], numbers: &mut [u64], texts: &mut [usize]) -> Front {
+// The call at the front of the input.
+pub fn read_call(input: &[u8]) -> Front {
     if input.len() == 0 {
         return Front::Short;
     }
     let call = input[0];
+    if call == 41 {
+        let rows = [
+            0x111_1bff,
+            0x111_1111,
+            0x1bf_f111,
+            0x111_1111,
+            0xcaca_011_1111,
+        ];
+        return read_roots(&rows, input);
+    }
     let row = row_of(call);
     if row == 0 {
         return Front::Outside;
     }
-    let front = read_front(call, row, input, numbers);
-    let Front::Whole(end) = front else {
-        return front;
-    };
-    read_texts(row / 0x1000_0000, input, end, texts)
+    read_row(row, input, 1)
+}
+
+// Where the strings of a call start.
+pub fn texts_at(input: &[u8]) -> usize {
+    let call = octets::byte_at(input, 0);
+    if call == 41 {
+        return 273;
+    }
+    match read_row(row_of(call) % 0x1000_0000, input, 1) {
+        Front::Whole(at) => at,
+        _ => 0,
+    }
+}
+
+// The place behind the string at a place.
+pub fn text_end(input: &[u8], at: usize) -> usize {
+    match read_text(1, input, at) {
+        Front::Whole(end) => end,
+        _ => at,
+    }
 }

@@ -7,27 +7,6 @@ use borrow.Author.Needs.{needs}
 use Rattle.stream.proofs.read_behind.Statement.{statement}
 use Rattle.stream.proofs.read_behind.Tie as tie
 
-returns : tie.Need-returns
-returns c = search needs
-
-sub-read : tie.Need-sub-read
-sub-read c = search needs
-
-part-read-start : tie.Need-part-read-start
-part-read-start c = search needs
-
-part-read-end : tie.Need-part-read-end
-part-read-end c = search needs
-
-read-requires : tie.Need-read-requires
-read-requires c κs = search needs
-
-read-of-requires : tie.Need-read-of-requires
-read-of-requires c κs = search needs
-
-same-length : tie.Need-same-length
-same-length c = search needs
-
 returns-2 : tie.Need-returns-2
 returns-2 c =
     let read = c .before .before .before in
@@ -45,11 +24,11 @@ pub read-behind-spec : {M : Type 1} → statement M
 read-behind-spec =
     tie.close
     (tie.spec
-    returns
-    sub-read
-    part-read-start
-    part-read-end
-    read-requires
-    read-of-requires
-    same-length
+    (λ c. search needs)
+    (λ c. search needs)
+    (λ c. search needs)
+    (λ c. search needs)
+    (search needs)
+    (search needs)
+    (λ c. search needs)
     returns-2)

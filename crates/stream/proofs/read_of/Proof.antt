@@ -15,19 +15,10 @@ cast-came c = counts (c .before .before .args .got) (c .before .before .fits .go
 returns-3 : tie.Need-returns-3
 returns-3 c = ended (c .before .before .before .args .got) (c .before .before .before .fits .got) (c .before .before .if1 .left) (c .before .if2 .left) (c .if3 .taken)
 
-sub-lesser : tie.Need-sub-lesser
-sub-lesser c = search needs
-
-lesser-requires : tie.Need-lesser-requires
-lesser-requires c κs = search needs
-
-add-t8 : tie.Need-add-t8
-add-t8 c = search needs
-
 returns-4 : tie.Need-returns-4
 returns-4 c = has (c .before .before .before .before .args .got) (c .before .before .before .before .fits .got) (c .before .before .before .if1 .left) (c .before .before .if2 .left) (c .before .if3 .left) (c .lesser .ensures)
 
 pub read-of-spec : {M : Type 1} → statement M
 read-of-spec =
     tie.close
-    (tie.spec returns returns-2 cast-came returns-3 sub-lesser lesser-requires add-t8 returns-4)
+    (tie.spec returns returns-2 cast-came returns-3 (λ c. search needs) (search needs) (λ c. search needs) returns-4)

@@ -6,14 +6,8 @@ use Rattle.stream.proofs.room.Tie as tie
 returns : tie.Need-returns
 returns c = simp (le-leb _ _ (c .if1 .taken))
 
-send-requires : tie.Need-send-requires
-send-requires c κs = search needs
-
 returns-2 : tie.Need-returns-2
 returns-2 c = simp (lt-leb _ _ (c .before .before .if1 .left))
 
-returns-3 : tie.Need-returns-3
-returns-3 c = search needs
-
 pub room-spec : {M : Type 1} → statement M
-room-spec = tie.close (tie.spec returns send-requires returns-2 returns-3)
+room-spec = tie.close (tie.spec returns (search needs) returns-2 (λ c. search needs))

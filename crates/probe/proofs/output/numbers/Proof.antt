@@ -6,7 +6,7 @@ use Rattle.probe.proofs.output.numbers.Statement.{statement}
 use Rattle.probe.proofs.output.numbers.Tie as tie
 
 abbrev Inv-loop : tie.InvT-loop
-Inv-loop out₀ at values count used₀ i₀ i-end out used i = (i ≤ i-end) × (i-end ≡ length values) × (length out ≡ length out₀)
+Inv-loop out₀ at values count used₀ i₀ i-end out used i = (i ≤ i-end) × (i-end ≤ length values) × (length out ≡ length out₀)
 
 abbrev μ-loop : tie.MeasureT-loop
 μ-loop out₀ at values count used₀ i₀ i-end out used i = i-end - i
@@ -17,6 +17,7 @@ numbers-spec =
     (tie.spec
     Inv-loop
     μ-loop
+    (search needs)
     (λ c. search needs)
     (λ c. search needs)
     (λ c. search needs)
