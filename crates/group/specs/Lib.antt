@@ -3,3 +3,4 @@ pub mod Slots
 pub mod Accept
 pub mod Agree
 pub mod Cases
+pub mod Inside

@@ -1,12 +1,13 @@
 // Checksum groups: 32 bitmap bytes, then up to 256 words. Document 01, section 6.
 ghost use mathlib.Core.Path.{_≡_};
 ghost use mathlib.Core.Bool.{true};
-ghost use Prim.Native.Nat.{_≤_, _<_};
+ghost use Prim.Native.Nat.{_+_, _*_, _≤_, _<_};
 ghost use lib.ListN.{length};
 ghost use Rattle.octets.specs.Below.{every};
 ghost use Rattle.octets.specs.Bytes.{IsPart};
 ghost use Rattle.group.specs.Group.{checksumSlot, compactBytes, expandGroup, validateChecksumGroup, storedSlots, rightSize, isCompact, holeZero, holesZero};
 ghost use Rattle.group.specs.Accept.{Sized};
+ghost use Rattle.group.specs.Inside.{slotZero, eightZero};
 use error::Check;
 use error::Error;
 use error::Validation;
@@ -116,12 +117,60 @@ fn hole_zero(group: &[u8], slot: usize) -> bool
     octets::u32_at(group, 32 + 4 * slot) == 0
 }
 
-// Whether each hole among the first slots holds zero.
+// The same of slot j of a bitmap byte, by the byte and its eight words; no branch but in the read.
+fn slot_zero(bits: u8, words: &[u8], j: usize) -> bool
+    requires { ⌜ j < 8 ⌝ }
+    ensures { λ r. ⌜ r ≡ slotZero bits (now (words .entry)) j ⌝ }
+{
+    (bits & (1 << j) != 0) | (octets::u32_at(words, 4 * j) == 0)
+}
+
+// The same of the eight slots of bitmap byte k. Their words are lent as 32 bytes: the reads need not ask where the group ends.
+fn eight_zero(group: &[u8], k: usize) -> bool
+    requires { ⌜ (64 + 32 * k ≤ length (now group)) × (k < 32) ⌝ }
+    ensures { λ r. ⌜ r ≡ eightZero (now (group .entry)) k ⌝ }
+{
+    let bits = group[k];
+    if bits == 255 {
+        return true;
+    }
+    let start = 32 + 32 * k;
+    let end = start + 32;
+    let words = &group[start..end];
+    slot_zero(bits, words, 0)
+        & slot_zero(bits, words, 1)
+        & slot_zero(bits, words, 2)
+        & slot_zero(bits, words, 3)
+        & slot_zero(bits, words, 4)
+        & slot_zero(bits, words, 5)
+        & slot_zero(bits, words, 6)
+        & slot_zero(bits, words, 7)
+}
+
+// Whether each hole among the slots of the first n bitmap bytes holds zero.
+fn eights_zero(group: &[u8], n: usize) -> bool
+    requires { ⌜ (32 + 32 * n ≤ length (now group)) × (n ≤ 32) ⌝ }
+    ensures { λ r. ⌜ r ≡ every (holeZero (now (group .entry))) (8 * n) ⌝ }
+{
+    let mut k = 0;
+    while k < n {
+        if !eight_zero(group, k) {
+            return false;
+        }
+        k += 1;
+    }
+    true
+}
+
+// Whether each hole among the first slots holds zero: whole bitmap bytes first, then slot by slot.
 fn first_holes_zero(group: &[u8], count: usize) -> bool
-    requires { ⌜ (32 ≤ length (now group)) × (count ≤ 256) ⌝ }
+    requires { ⌜ (32 + 4 * count ≤ length (now group)) × (count ≤ 256) ⌝ }
     ensures { λ r. ⌜ r ≡ every (holeZero (now (group .entry))) count ⌝ }
 {
-    let mut s = 0;
+    if !eights_zero(group, count / 8) {
+        return false;
+    }
+    let mut s = 8 * (count / 8);
     while s < count {
         if !hole_zero(group, s) {
             return false;
