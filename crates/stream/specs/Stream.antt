@@ -1,7 +1,7 @@
 -- What is known of reading and writing that can fail. Which bytes come, and whether a call fails, no contract can say.
 use Prim.Native.Nat.{ℕ, _+_, _-_, _/_, _≤_, _<_, min}
 use mathlib.Core.Path.{_≡_}
-use mathlib.Core.Bool.{cond}
+use mathlib.Core.Bool.{Bool, true, cond}
 use mathlib.Core.List.{List}
 use lib.Dec.{eqb, leb}
 use lib.IntN.{ℤ, pos, negsuc}
@@ -34,6 +34,10 @@ pub record FilledBy (before after : List ℕ) (r : Filled) : Type 0 where
   pub ended : (n : ℕ) → r ≡ Filled.Ended n → n < length before
   pub failed : r ≡ Filled.Failed → 0 < length before
   pub size : length after ≡ length before
+
+-- sending nothing doesn't fail
+abbrev pub Sent : ℕ → Bool → Type 0
+Sent used r = used ≡ 0 → r ≡ true
 
 -- the next line starts behind what is used, while that is within the first half of so many bytes; else at the front, or nowhere
 abbrev pub StartsAt : ℕ → ℕ → Next → Type 0

@@ -2,7 +2,7 @@
 // Nobody here handles a signal, so none interrupts a call.
 ghost use mathlib.Core.Path.{_≡_};
 ghost use lib.ListN.{length};
-ghost use Rattle.stream.specs.Stream.{readOf, ReadBehind, FilledBy, StartsAt};
+ghost use Rattle.stream.specs.Stream.{readOf, ReadBehind, FilledBy, Sent, StartsAt};
 use libc::STDOUT_FILENO;
 
 // What came of a read behind the bytes that a buffer has already.
@@ -86,8 +86,13 @@ pub fn fill(fd: i32, buf: &mut [u8]) -> Filled
 }
 
 // Writes the first `used` bytes of a buffer to standard output, and answers whether all were taken. Where they weren't, says so on
-// standard error: what failed, as the caller names it, and why.
-pub fn send(out: &[u8], used: usize, what: &[u8]) -> bool {
+// standard error: what failed, as the caller names it, and why. To send nothing can't fail.
+pub fn send(out: &[u8], used: usize, what: &[u8]) -> bool
+    ensures { λ r. ⌜ Sent used r ⌝ }
+{
+    if used == 0 {
+        return true;
+    }
     if io::write_all(STDOUT_FILENO, octets::span(out, 0, used)) {
         return true;
     }
