@@ -1,5 +1,6 @@
 // The C interface of the reader: include/carryfs.h says what each function answers. A slice is a pointer and a length, a result a
 // number. Answers of several numbers are written as words at the front of a lent array, or not at all where it has no room for them.
+#![tactic(auto)]
 ghost use Rattle.std.specs.Prelude.{◌≡◌, ◌&&◌, cond, ◌≤◌, length};
 ghost use Rattle.crc.specs.Crc.{extend, crc32c};
 ghost use Rattle.crc.specs.DataUnit.{data_unit_crc};

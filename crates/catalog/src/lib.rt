@@ -1,4 +1,5 @@
 // Records of the catalog: owner numbers, keys, timestamps, inodes, directory entries, extents. Document 01, section 5.
+#![tactic(auto)]
 ghost use Rattle.std.specs.Prelude.{◌≡◌, true, ◌≤◌, length};
 ghost use Rattle.error.specs.declared.Number.{Number as NumberOf};
 ghost use Rattle.error.specs.Demand.{outcome, demands};

@@ -1,4 +1,5 @@
 // Runs the vectors of RFC 3720, appendix B.4, and cases whose words the reference computed, and writes each word in hexadecimal.
+#![tactic(auto)]
 use error::Number;
 
 // Answers whether the line's end was written.

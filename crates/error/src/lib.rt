@@ -1,4 +1,6 @@
 // Failures of the reading checks, and the answers of a check. Document 01, "Return classes".
+#![tactic(auto)]
+
 pub mod reason;
 
 ghost use Rattle.std.specs.Prelude.{◌≡◌};

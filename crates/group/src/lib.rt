@@ -1,4 +1,5 @@
 // Checksum groups: 32 bitmap bytes, then up to 256 words. Document 01, section 6.
+#![tactic(auto)]
 ghost use Rattle.std.specs.Prelude.{◌≡◌, true, ◌+◌, ◌*◌, ◌≤◌, ◌<◌, length};
 ghost use Rattle.octets.specs.Below.{every};
 ghost use Rattle.octets.specs.Bytes.{IsPart};

@@ -1,4 +1,5 @@
 // Records in a part: the record at its start, and the floor lookup, the last record whose key is not above a sought one. Document 01, section 7.
+#![tactic(auto)]
 ghost use Rattle.std.specs.Prelude.{◌≡◌, true, ℕ, ◌+◌, ◌-◌, ◌<◌, ◌≤◌, length, get_or, drop};
 ghost use Rattle.octets.specs.Number.{u16_at};
 ghost use Rattle.lookup.specs.Record.{split_record, is_record, look_at};

@@ -1,4 +1,6 @@
 // Bytes: stored numbers at an offset, numbers inside keys, zeros, copies, and comparisons.
+#![tactic(auto)]
+
 ghost use Rattle.std.specs.Prelude.{◌≡◌, ◌+◌, ◌-◌, ◌≤◌, ◌<◌, ◌^◌, min, leb, length};
 ghost use Rattle.octets.specs.Bytes.{byte_at, part, IsPart, IsRest, padded_to, Laid, all_zero, same_bytes, starts_with};
 ghost use Rattle.octets.specs.Number.{big, field, u16_at, u32_at, u64_at, big_at};

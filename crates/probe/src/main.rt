@@ -1,5 +1,6 @@
 // Runs every public call of the reader from outside: calls from standard input, a line for each on standard output. It takes the
 // arguments apart, calls and prints; the answers are the crates'.
+#![tactic(auto)]
 mod arguments;
 mod blocks;
 mod fields;

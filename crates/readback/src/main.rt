@@ -1,4 +1,5 @@
 // Reads roots and pages from standard input and says of each what the reader answers. Document 01, "The program readback".
+#![tactic(auto)]
 use libc::{STDERR_FILENO, STDIN_FILENO};
 use stream::{Filled, Next};
 

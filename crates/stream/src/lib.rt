@@ -1,5 +1,6 @@
 // Reading and writing that can fail. A read that fails is neither bytes nor the end of the input, and a write that fails stops a program.
 // Nobody here handles a signal, so none interrupts a call.
+#![tactic(auto)]
 ghost use Rattle.std.specs.Prelude.{◌≡◌, length};
 ghost use Rattle.stream.specs.Stream.{read_of, ReadBehind, FilledBy, Sent, StartsAt};
 

@@ -1,4 +1,5 @@
 // UTF-8 cases: a line for each with the bytes in hex, 1 or 0 for `is_utf8`, and 1 or 0 for `is_plain`.
+#![tactic(auto)]
 ghost use Rattle.std.specs.Prelude.{◌≡◌};
 
 use libc::STDOUT_FILENO;

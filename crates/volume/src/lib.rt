@@ -1,4 +1,5 @@
 // Volume blocks: which block numbers mean what, and the checks of references. Document 01, section 2.
+#![tactic(auto)]
 ghost use Rattle.std.specs.Prelude.{◌≡◌, ◌-◌, min, max};
 ghost use Rattle.volume.specs.Numbers.{sum_fits};
 ghost use Rattle.volume.specs.Blocks.{is_nonreserved_block, is_nonreserved_run, is_bank_root, is_bank_block, is_root_slot};
