@@ -1,10 +1,31 @@
 // Reading and writing that can fail. A read that fails is neither bytes nor the end of the input, and a write that fails stops a program.
 // Nobody here handles a signal, so none interrupts a call.
 #![tactic(auto)]
+
 ghost use Rattle.std.specs.Prelude.{◌≡◌, length};
 ghost use Rattle.stream.specs.Stream.{read_of, ReadBehind, FilledBy, Sent, StartsAt};
 
-use libc::STDOUT_FILENO;
+use std::io;
+use std::io::{Read as _, Write as _};
+
+// A reader, and why the last read from it that failed did.
+#[derive(Drop)]
+pub struct Reader<R> {
+    from: R,
+    why: io::Error,
+}
+
+impl<R> Reader<R> {
+    pub fn new(from: R) -> Reader<R> {
+        let why = io::Error::from_raw_os_error(0);
+        Reader { from, why }
+    }
+
+    // Why the last read that failed did.
+    pub fn why(&self) -> io::Error {
+        self.why
+    }
+}
 
 // What came of a read behind the bytes that a buffer has already.
 #[derive(Drop)]
@@ -13,7 +34,7 @@ pub enum Read {
     Has(usize),
     // The input has ended.
     Ended,
-    // The read failed; errno says why.
+    // The read failed; the reader says why.
     Failed,
     // There is no room for another byte, and nothing was read.
     Full,
@@ -25,7 +46,7 @@ pub enum Filled {
     Whole,
     // The input ended behind so many bytes.
     Ended(usize),
-    // A read failed; errno says why.
+    // A read failed; the reader says why.
     Failed,
 }
 
@@ -53,25 +74,36 @@ fn read_of(got: isize, have: usize, size: usize) -> Read
     Read::Has(have + octets::lesser(came, size - have))
 }
 
+// The system's answer to a read: how many bytes came, or -1 where it failed.
+fn answer<R: io::Read>(input: &mut Reader<R>, part: &mut [u8]) -> isize {
+    match input.from.read(part) {
+        Ok(came) => came as isize,
+        Err(e) => {
+            input.why = e;
+            -1
+        }
+    }
+}
+
 // Reads once behind the first `have` bytes.
-pub fn read_behind(fd: i32, buf: &mut [u8], have: usize) -> Read
+pub fn read_behind<R: io::Read>(input: &mut Reader<R>, buf: &mut [u8], have: usize) -> Read
     ensures { ReadBehind buf.old have buf.new result }
 {
     let size = buf.len();
     if size <= have {
         return Read::Full;
     }
-    let got = libc::read(fd, &mut buf[have..]);
+    let got = answer(input, &mut buf[have..]);
     read_of(got, have, size)
 }
 
 // Reads until the buffer is full, the input ends or a read fails.
-pub fn fill(fd: i32, buf: &mut [u8]) -> Filled
+pub fn fill<R: io::Read>(input: &mut Reader<R>, buf: &mut [u8]) -> Filled
     ensures { FilledBy buf.old buf.new result }
 {
     let mut have = 0;
     while have < buf.len() {
-        match read_behind(fd, buf, have) {
+        match read_behind(input, buf, have) {
             Read::Has(n) => {
                 have = n;
             }
@@ -89,29 +121,66 @@ pub fn fill(fd: i32, buf: &mut [u8]) -> Filled
     Filled::Whole
 }
 
+// What the library says of an error without the number that it puts behind the system's words.
+fn words(told: &[u8]) -> &[u8] {
+    let Ok(text) = std::str::from_utf8(told) else {
+        return told;
+    };
+    match text.split_once(" (os error ") {
+        Some((words, _)) => words.as_bytes(),
+        None => told,
+    }
+}
+
+// Says on standard error what failed, as the caller names it, and why.
+pub fn fail<E: io::Write>(errors: &mut E, what: &[u8], why: io::Error) {
+    let mut told = io::Cursor::new([0u8; 128]);
+    let _ = write!(told, "{why}");
+    let used = told.position() as usize;
+    let told = told.into_inner();
+    let _ = errors.write_all(what);
+    let _ = errors.write_all(b": ");
+    let _ = errors.write_all(words(octets::span(&told, 0, used)));
+    let _ = errors.write_all(b"\n");
+}
+
 // Writes the first `used` bytes of a buffer to standard output, and answers whether all were taken. Where they weren't, says so on
 // standard error: what failed, as the caller names it, and why. To send nothing can't fail.
-pub fn send(out: &[u8], used: usize, what: &[u8]) -> bool
+pub fn send<O: io::Write, E: io::Write>(
+    output: &mut O,
+    errors: &mut E,
+    out: &[u8],
+    used: usize,
+    what: &[u8],
+) -> bool
     ensures { Sent used result }
 {
     if used == 0 {
         return true;
     }
-    if io::write_all(STDOUT_FILENO, octets::span(out, 0, used)) {
-        return true;
+    match output.write_all(octets::span(out, 0, used)) {
+        Ok(()) => true,
+        Err(e) => {
+            fail(errors, what, e);
+            false
+        }
     }
-    os::fail(what);
-    false
 }
 
 // Keeps half of a buffer of lines free, since a line takes less: beyond it what is there is sent.
-pub fn room(out: &[u8], used: usize, what: &[u8]) -> Next
+pub fn room<O: io::Write, E: io::Write>(
+    output: &mut O,
+    errors: &mut E,
+    out: &[u8],
+    used: usize,
+    what: &[u8],
+) -> Next
     ensures { StartsAt (length out.now) used result }
 {
     if used <= out.len() / 2 {
         return Next::At(used);
     }
-    if send(out, used, what) {
+    if send(output, errors, out, used, what) {
         return Next::At(0);
     }
     Next::Stop
