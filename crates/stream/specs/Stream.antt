@@ -1,8 +1,14 @@
 -- What is known of reading and writing that can fail. Which bytes come, and whether a call fails, no contract can say.
-use Rattle.std.specs.Prelude.{ℕ, ◌+◌, ◌-◌, ◌/◌, ◌≤◌, ◌<◌, min, ◌≡◌, Bool, true, cond, List, eqb, leb, ℤ, pos, negsuc, length, take}
+use Rattle.std.specs.Prelude.{ℕ, ◌+◌, ◌-◌, ◌/◌, ◌≤◌, ◌<◌, min, ◌≡◌, Bool, true, cond, List, eqb, leb, ℤ, pos, negsuc, length, take, Result, Ok, Err, Option, ◌++◌, ◌∷◌, []}
+use Rattle.std.specs.Io.KnownBytes.{Appends}
 use Rattle.stream.specs.declared.Read.{Read}
 use Rattle.stream.specs.declared.Filled.{Filled}
 use Rattle.stream.specs.declared.Next.{Next}
+
+-- the system's answer to a read as a number: how many bytes came, or -1 where it failed
+abbrev pub answer_of : {E : Type 0} → Result ℕ E → ℤ
+answer_of (Ok n) = pos n
+answer_of (Err e) = negsuc 0
 
 -- what the system's answer to a read behind the first `have` of `size` bytes means: below 0 it failed, 0 is the end of the input,
 -- another number is how many bytes came, never more than there is room for; without room it means nothing
@@ -28,6 +34,10 @@ pub record FilledBy (before after : List ℕ) (r : Filled) : Type 0 where
   pub ended : (n : ℕ) → r ≡ Filled.Ended n → n < length before
   pub failed : r ≡ Filled.Failed → 0 < length before
   pub size : length after ≡ length before
+
+-- what failed, a colon, some words and the line's end are written behind what a writer holds, where that is known
+abbrev pub Says : Option (List ℕ) → Option (List ℕ) → List ℕ → Type 0
+Says old new what = (words : List ℕ) × Appends old new (((what ++ (58 ∷ 32 ∷ [])) ++ words) ++ (10 ∷ []))
 
 -- sending nothing doesn't fail
 abbrev pub Sent : ℕ → Bool → Type 0

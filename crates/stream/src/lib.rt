@@ -2,8 +2,8 @@
 // Nobody here handles a signal, so none interrupts a call.
 #![tactic(auto)]
 
-ghost use Rattle.std.specs.Prelude.{◌≡◌, length};
-ghost use Rattle.stream.specs.Stream.{read_of, ReadBehind, FilledBy, Sent, StartsAt};
+ghost use Rattle.std.specs.Prelude.{◌≡◌, ◌<◌, ◌^◌, length, IfOk, OnOk};
+ghost use Rattle.stream.specs.Stream.{answer_of, read_of, ReadBehind, FilledBy, Says, Sent, StartsAt};
 
 use std::io;
 use std::io::{Read as _, Write as _};
@@ -11,20 +11,8 @@ use std::io::{Read as _, Write as _};
 // A reader, and why the last read from it that failed did.
 #[derive(Drop)]
 pub struct Reader<R> {
-    from: R,
-    why: io::Error,
-}
-
-impl<R> Reader<R> {
-    pub fn new(from: R) -> Reader<R> {
-        let why = io::Error::from_raw_os_error(0);
-        Reader { from, why }
-    }
-
-    // Why the last read that failed did.
-    pub fn why(&self) -> io::Error {
-        self.why
-    }
+    pub from: R,
+    pub why: io::Error,
 }
 
 // What came of a read behind the bytes that a buffer has already.
@@ -57,6 +45,17 @@ pub enum Next {
     Stop,
 }
 
+// The system's answer to a read, as a number: how many bytes came, or -1 where it failed.
+fn answer(got: &io::Result<usize>) -> isize
+    requires { IfOk got.now (λ n. n < 2 ^ 63) }
+    ensures { result ≡ answer_of got.now }
+{
+    match got {
+        Ok(came) => *came as isize,
+        Err(_) => -1,
+    }
+}
+
 // What the system's answer to a read behind the first `have` of `size` bytes means.
 fn read_of(got: isize, have: usize, size: usize) -> Read
     ensures { result ≡ read_of size have got }
@@ -74,17 +73,6 @@ fn read_of(got: isize, have: usize, size: usize) -> Read
     Read::Has(have + octets::lesser(came, size - have))
 }
 
-// The system's answer to a read: how many bytes came, or -1 where it failed.
-fn answer<R: io::Read>(input: &mut Reader<R>, part: &mut [u8]) -> isize {
-    match input.from.read(part) {
-        Ok(came) => came as isize,
-        Err(e) => {
-            input.why = e;
-            -1
-        }
-    }
-}
-
 // Reads once behind the first `have` bytes.
 pub fn read_behind<R: io::Read>(input: &mut Reader<R>, buf: &mut [u8], have: usize) -> Read
     ensures { ReadBehind buf.old have buf.new result }
@@ -93,8 +81,12 @@ pub fn read_behind<R: io::Read>(input: &mut Reader<R>, buf: &mut [u8], have: usi
     if size <= have {
         return Read::Full;
     }
-    let got = answer(input, &mut buf[have..]);
-    read_of(got, have, size)
+    let got = input.from.read(&mut buf[have..]);
+    let answered = answer(&got);
+    if let Err(e) = got {
+        input.why = e;
+    }
+    read_of(answered, have, size)
 }
 
 // Reads until the buffer is full, the input ends or a read fails.
@@ -132,16 +124,18 @@ fn words(told: &[u8]) -> &[u8] {
     }
 }
 
-// Says on standard error what failed, as the caller names it, and why.
-pub fn fail<E: io::Write>(errors: &mut E, what: &[u8], why: io::Error) {
+// Says what failed, as the caller names it, and why, in a line of its own.
+pub fn fail<E: io::Write>(errors: &mut E, what: &[u8], why: io::Error) -> io::Result<()>
+    ensures { OnOk result (Says (E.contents errors.old) (E.contents errors.new) what.now) }
+{
     let mut told = io::Cursor::new([0u8; 128]);
     let _ = write!(told, "{why}");
     let used = told.position() as usize;
     let told = told.into_inner();
-    let _ = errors.write_all(what);
-    let _ = errors.write_all(b": ");
-    let _ = errors.write_all(words(octets::span(&told, 0, used)));
-    let _ = errors.write_all(b"\n");
+    errors.write_all(what)?;
+    errors.write_all(b": ")?;
+    errors.write_all(words(octets::span(&told, 0, used)))?;
+    errors.write_all(b"\n")
 }
 
 // Writes the first `used` bytes of a buffer to standard output, and answers whether all were taken. Where they weren't, says so on
@@ -161,7 +155,7 @@ pub fn send<O: io::Write, E: io::Write>(
     match output.write_all(octets::span(out, 0, used)) {
         Ok(()) => true,
         Err(e) => {
-            fail(errors, what, e);
+            let _ = fail(errors, what, e);
             false
         }
     }

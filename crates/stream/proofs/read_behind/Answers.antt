@@ -12,6 +12,6 @@ returns g c =
     let bytes = c.args.buf.now in
     record {
       came = came_of _ (length bytes) have c.if-size-have.false c.read_of.ensures;
-      kept = take_put have (length bytes - have) bytes c.answer-got.new.part (le_of_lt c.if-size-have.false);
+      kept = take_put have (length bytes - have) bytes c.read-got.new.buf (le_of_lt c.if-size-have.false);
       size = search rules;
     }
