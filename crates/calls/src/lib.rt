@@ -18,7 +18,7 @@ use error::Validation;
 use volume::TreeRef;
 
 // The first seven numbers of a call, in their order; of those that a call doesn't take nothing is said.
-#[derive(Drop)]
+#[derive(Clone, Copy)]
 pub struct Numbers {
     pub a: u64,
     pub b: u64,
@@ -30,7 +30,7 @@ pub struct Numbers {
 }
 
 // The first `count` of the values are a call's fields; the others are 0.
-#[derive(Drop)]
+#[derive(Clone, Copy)]
 pub struct Fields {
     pub count: usize,
     pub values: [u64; 7],

@@ -1,5 +1,6 @@
 // CRC-32C, eight bytes a step by tables, and three lanes of steps side by side. specs/Crc.antt says what it is, bit by bit.
 #![tactic(auto)]
+
 mod words;
 
 ghost use Rattle.std.specs.Prelude.{◌≡◌, [], ◌∷◌, ◌+◌, ◌*◌, ◌/◌, ◌%◌, ◌^◌, ◌<◌, ◌≤◌, length, drop, replicate};

@@ -7,7 +7,7 @@ ghost use Rattle.std.specs.Prelude.{◌≡◌};
 ghost use Rattle.error.specs.Answer.{violation_of, class_of, reason_of, check_class, check_reason};
 
 // A refusal: its class, and the number of its reason.
-#[derive(Drop)]
+#[derive(Clone, Copy)]
 pub enum Error {
     InvalidGeometry,
     InvalidInput(u16),
@@ -18,21 +18,21 @@ pub enum Error {
 }
 
 // Whether a violation is the caller's error or on-disk corruption.
-#[derive(Drop)]
+#[derive(Clone, Copy)]
 pub enum Validation {
     Input,
     Disk,
 }
 
 // The answer of a check that gives no value.
-#[derive(Drop)]
+#[derive(Clone, Copy)]
 pub enum Check {
     Passed,
     Refused(Error),
 }
 
 // The answer of a check that gives a number.
-#[derive(Drop)]
+#[derive(Clone, Copy)]
 pub enum Number {
     Value(u64),
     Refused(Error),

@@ -1,5 +1,6 @@
 // Checksum groups: 32 bitmap bytes, then up to 256 words. Document 01, section 6.
 #![tactic(auto)]
+
 ghost use Rattle.std.specs.Prelude.{◌≡◌, true, ◌+◌, ◌*◌, ◌≤◌, ◌<◌, length};
 ghost use Rattle.octets.specs.Below.{every};
 ghost use Rattle.octets.specs.Bytes.{IsPart};
@@ -15,7 +16,7 @@ pub const CHECKSUM_GROUP_BYTES: usize = 1056;
 const MAX_CHECKSUM_GROUP: u64 = 9223372036854775807 / (256 * 65536);
 
 // What a slot of a group holds.
-#[derive(Drop)]
+#[derive(Clone, Copy)]
 pub enum Slot {
     Hole,
     Word(u32),

@@ -10,7 +10,7 @@ use page::view::{PageView, Records};
 use volume::{TreeKind, TreeRef};
 
 // A floor record's numbers, and the record that `next` gives first of it: whether there is one, its key's and value's lengths and checksums, and how many are left.
-#[derive(Drop)]
+#[derive(Clone, Copy)]
 pub struct First {
     pub found: bool,
     pub index: usize,
@@ -69,7 +69,7 @@ pub fn lookup_first<'a>(view: PageView<'a>, key: &[u8], offsets: &mut [u16]) -> 
 }
 
 // What a page's view states, and what a lookup on it hands out first.
-#[derive(Drop)]
+#[derive(Clone, Copy)]
 pub struct Handed {
     pub class: u16,
     pub reason: u16,

@@ -12,7 +12,6 @@ use borrow.Author.Tests.{lt-ltb, le-ltb, ltb-true, ltb-false}
 use Rattle.octets.specs.Order.{order, is_greater}
 use Rattle.lookup.specs.Floor.{next_offset, written, unbroken, above_at, bisect, before, walk_floor, floor_at}
 use Rattle.lookup.specs.Sorted.{offset_of, key_at, Sorted, key_above, IsFloor, FloorIsTheLast, WalkingIsHalving}
-use Rattle.lookup.specs.declared.Look
 use Rattle.lookup.specs.declared.Floor.{Floor}
 use Rattle.lookup.specs.declared.Floor.TheVariants.{At, Nothing}
 use Rattle.octets.proofs.OrderLaws.{above_trans, greater_of}

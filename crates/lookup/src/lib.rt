@@ -1,5 +1,6 @@
 // Records in a part: the record at its start, and the floor lookup, the last record whose key is not above a sought one. Document 01, section 7.
 #![tactic(auto)]
+
 ghost use Rattle.std.specs.Prelude.{◌≡◌, true, ℕ, ◌+◌, ◌-◌, ◌<◌, ◌≤◌, length, get_or, drop};
 ghost use Rattle.octets.specs.Number.{u16_at};
 ghost use Rattle.lookup.specs.Record.{split_record, is_record, look_at};
@@ -7,27 +8,27 @@ ghost use Rattle.lookup.specs.Inside.{record_end};
 ghost use Rattle.lookup.specs.Floor.{written, unbroken, over, above_at, bisect, before, walk_floor, floor_at, scratch_of, floor_answer, no_step, next_record};
 
 // What stands at the start of a part: a record, or too few bytes for one.
-#[derive(Drop)]
+#[derive(Clone, Copy)]
 pub enum Split {
     Record { key_len: usize, value_len: usize },
     Broken,
 }
 
 // A record beside a sought key: above it, or not and of so many bytes.
-#[derive(Drop)]
+#[derive(Clone, Copy)]
 pub enum Look {
     Above,
     Size(usize),
 }
 
 // Where a record at a place ends, or that it is broken.
-#[derive(Drop)]
+#[derive(Clone, Copy)]
 enum End {
     At(usize),
     Broken,
 }
 
-#[derive(Drop)]
+#[derive(Clone, Copy)]
 pub enum Floor {
     At { index: usize, offset: usize },
     Nothing,
@@ -181,7 +182,7 @@ pub fn floor_at(part: &[u8], count: usize, key: &[u8], scratch: &mut [u16]) -> F
 }
 
 // The answer of a floor lookup in numbers; where there is no record each is 0.
-#[derive(Drop)]
+#[derive(Clone, Copy)]
 pub struct Answer {
     pub found: bool,
     pub index: usize,
@@ -216,7 +217,7 @@ pub fn floor_answer(part: &[u8], count: usize, key: &[u8], scratch: &mut [u16]) 
 
 // What stands at the front of a part with so many records left: where the record's key starts and ends, where its value ends, and how
 // many records are left after it.
-#[derive(Drop)]
+#[derive(Clone, Copy)]
 pub struct Step {
     pub found: bool,
     pub key_start: usize,

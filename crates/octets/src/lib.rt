@@ -10,19 +10,19 @@ ghost use Rattle.octets.specs.Reads.{read_of, number16, number32};
 
 use error::{Error, Number};
 
-#[derive(Drop)]
+#[derive(Clone, Copy)]
 pub enum Read16 {
     Value(u16),
     Refused(Error),
 }
 
-#[derive(Drop)]
+#[derive(Clone, Copy)]
 pub enum Read32 {
     Value(u32),
     Refused(Error),
 }
 
-#[derive(Drop)]
+#[derive(Clone, Copy)]
 pub enum Order {
     Less,
     Equal,

@@ -16,7 +16,7 @@ use volume::{TreeKind, TreeRef};
 use walk::RecordValidation;
 
 // The level that the caller expects, if any.
-#[derive(Drop)]
+#[derive(Clone, Copy)]
 pub enum Expected {
     Any,
     Exactly(u8),
@@ -33,7 +33,7 @@ pub fn expected_of(level: u8) -> Expected
 }
 
 // What reading a page answers, in numbers: class and reason, the level, the total, the count, and where its payload starts and ends.
-#[derive(Drop)]
+#[derive(Clone, Copy)]
 pub struct Page {
     pub class: u16,
     pub reason: u16,

@@ -5,7 +5,7 @@ ghost use Rattle.page.specs.View.{Views, Found, Stepped};
 
 use crate::Page;
 
-#[derive(Drop)]
+#[derive(Clone, Copy)]
 pub struct PageView<'a> {
     pub class: u16,
     pub reason: u16,
@@ -77,7 +77,7 @@ impl<'a> PageView<'a> {
 }
 
 // What a floor lookup answers: whether there is a record, its index, how many there are from it on, and the payload from it on.
-#[derive(Drop)]
+#[derive(Clone, Copy)]
 pub struct FloorRecord<'a> {
     pub found: bool,
     pub index: usize,
@@ -114,7 +114,7 @@ pub fn view_of<'a>(page: &'a [u8], answer: Page) -> PageView<'a>
 }
 
 // Records that are left: so many, at the front of a part.
-#[derive(Drop)]
+#[derive(Clone, Copy)]
 pub struct Records<'a> {
     pub payload: &'a [u8],
     pub remaining: usize,
@@ -132,7 +132,7 @@ impl<'a> PageView<'a> {
 }
 
 // A record that was read, if there was one, and the records that are left.
-#[derive(Drop)]
+#[derive(Clone, Copy)]
 pub struct Next<'a> {
     pub found: bool,
     pub key: &'a [u8],

@@ -22,7 +22,7 @@ pub const ALLOCATION_GROUP_BYTES: usize = 2048;
 pub const MAX_RECORD_BYTES: usize = 3072;
 
 // The answer of an internal record: the page that it names.
-#[derive(Drop)]
+#[derive(Clone, Copy)]
 pub enum Child {
     Reference(TreeRef),
     Refused(Error),

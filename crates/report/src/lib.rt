@@ -1,6 +1,7 @@
 // Fields and lines of the programs, as bytes in a lent buffer. Document 01, "The program readback".
 // Each function lays its text into the buffer from `at` on and returns the place behind it; what the buffer has no room for is left out.
 #![tactic(auto)]
+
 ghost use Rattle.std.specs.Prelude.{◌≡◌, [], ◌∷◌, ◌+◌, ◌%◌, ◌≤◌, ◌<◌, length, drop};
 ghost use Rattle.octets.specs.Bytes.{Laid};
 ghost use Rattle.report.specs.Text.{decimal as Text·decimal, number_field, number_fields, hex_digit, hex_byte, hex_entry, hex_field, entries_field};

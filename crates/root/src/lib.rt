@@ -12,21 +12,21 @@ use error::{Check, Error, Validation, reason, violation};
 use volume::{TreeKind, TreeRef};
 
 // A volume label: its bytes, zeros beyond its length.
-#[derive(Drop)]
+#[derive(Clone, Copy)]
 pub struct Label {
     pub len: u8,
     pub bytes: [u8; 255],
 }
 
 // The answer of `Label::new`: beside a refusal the label is all zero.
-#[derive(Drop)]
+#[derive(Clone, Copy)]
 pub struct NewLabel {
     pub answer: Check,
     pub label: Label,
 }
 
 // The fields of a root. Where there is no label, `label` is all zero.
-#[derive(Drop)]
+#[derive(Clone, Copy)]
 pub struct Root {
     pub has_label: bool,
     pub label: Label,
@@ -44,28 +44,28 @@ pub struct Root {
 }
 
 // The answer of `Root::decode`: beside a refusal the root is all zero.
-#[derive(Drop)]
+#[derive(Clone, Copy)]
 pub struct Decoded {
     pub answer: Check,
     pub root: Root,
 }
 
 // A root that may be missing; a missing one's fields don't count.
-#[derive(Drop)]
+#[derive(Clone, Copy)]
 pub struct MaybeRoot {
     pub present: bool,
     pub root: Root,
 }
 
 // The answer of `supported_root`.
-#[derive(Drop)]
+#[derive(Clone, Copy)]
 pub struct Supported {
     pub answer: Check,
     pub found: MaybeRoot,
 }
 
 // The answer of `select_root` and `choose_root`: which is 1 for the first, 2 for the second, and 0 beside a refusal.
-#[derive(Drop)]
+#[derive(Clone, Copy)]
 pub struct Selected {
     pub answer: Check,
     pub which: u8,

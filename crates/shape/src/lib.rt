@@ -6,7 +6,7 @@ ghost use Rattle.shape.specs.Calls.{items_in, calls, call_front, strings_at};
 ghost use Rattle.shape.specs.Inside.{least_of, most_of, range_of, item_at, items_of, items_of_all, digits_in, IsRow, AreRows};
 
 // What stands at the front of the input.
-#[derive(Drop)]
+#[derive(Clone, Copy)]
 pub enum Front {
     // A whole call, or a part of it, and where that ends.
     Whole(usize),

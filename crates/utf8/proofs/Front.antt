@@ -3,10 +3,8 @@ use Prim.Native.Nat.{ℕ, ◌-◌, ◌≤◌, ◌<◌}
 use mathlib.Core.Path.{◌≡◌, refl, sym, ◌∙◌}
 use mathlib.Core.Bool.{Bool, true, false, cond}
 use mathlib.Core.List.{List, [], ◌∷◌}
-use native.Mathlib.Nat.{le_of_eq}
 use native.Mathlib.Omega.{arith}
-use lib.ListN.{length, get_or, take, drop, length-drop, get_or-eq_default}
-use lib.Seq.{take_all}
+use lib.ListN.{length, get_or, take, drop, get_or-eq_default}
 use Rattle.octets.proofs.Parts.{part_from}
 use Rattle.utf8.specs.Reading.{one, two, three, four}
 use Rattle.utf8.specs.Inside.{char_len, char_len2, char_len3, char_len4}

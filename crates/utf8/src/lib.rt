@@ -1,5 +1,6 @@
 // UTF-8 (RFC 3629, section 4), and the characters of a label.
 #![tactic(auto)]
+
 ghost use Rattle.std.specs.Prelude.{◌≡◌, true, ◌≤◌, length, drop};
 ghost use Rattle.utf8.specs.Reading.{one, two, three, four, utf8};
 ghost use Rattle.utf8.specs.Inside.{char_len, char_len2, char_len3, char_len4, front_number};

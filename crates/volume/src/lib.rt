@@ -1,5 +1,6 @@
 // Volume blocks: which block numbers mean what, and the checks of references. Document 01, section 2.
 #![tactic(auto)]
+
 ghost use Rattle.std.specs.Prelude.{◌≡◌, ◌-◌, min, max};
 ghost use Rattle.volume.specs.Numbers.{sum_fits};
 ghost use Rattle.volume.specs.Blocks.{is_nonreserved_block, is_nonreserved_run, is_bank_root, is_bank_block, is_root_slot};
@@ -18,14 +19,14 @@ pub const ALLOCATION_GROUP_BLOCKS: u64 = 16384;
 pub const MAX_ID: u64 = 0x7FFF_FFFF_FFFF_FFFF;
 
 // A page's block and the generation that it was written in.
-#[derive(Drop)]
+#[derive(Clone, Copy)]
 pub struct TreeRef {
     pub block: u64,
     pub generation: u64,
 }
 
 // The tree that a page belongs to.
-#[derive(Drop)]
+#[derive(Clone, Copy)]
 pub enum TreeKind {
     Catalog,
     Allocation,
@@ -34,7 +35,7 @@ pub enum TreeKind {
 }
 
 // Two ranges of blocks, each from its start up to but not including its end.
-#[derive(Drop)]
+#[derive(Clone, Copy)]
 pub struct GroupBlocks {
     pub low_start: u64,
     pub low_end: u64,

@@ -9,7 +9,7 @@ use record::Child;
 use volume::TreeKind;
 
 // What the records of a page are checked by.
-#[derive(Drop)]
+#[derive(Clone, Copy)]
 pub struct RecordValidation {
     pub kind: TreeKind,
     pub page_kind: u8,
@@ -19,14 +19,14 @@ pub struct RecordValidation {
 }
 
 // The lengths of a record's key and value, or why it is none.
-#[derive(Drop)]
+#[derive(Clone, Copy)]
 enum Form {
     Sized { key_len: usize, value_len: usize },
     Refused(Error),
 }
 
 // What one turn of the walk gives: the lengths of the record's key and value, and a leaf's total so far or a child's block; or a refusal.
-#[derive(Drop)]
+#[derive(Clone, Copy)]
 enum Turn {
     Passed(usize, usize, u64),
     Refused(Error),

@@ -1,0 +1,19 @@
+use mathlib.Core.Path.{◌≡◌, refl}
+use Prim.Native.Nat.{◌-◌}
+use lib.ListN.{length, drop}
+use borrow.Author.Rules.{rules}
+use Rattle.catalog.specs.Inode.{without_nul}
+use Rattle.catalog.proofs.Nul.{nul_here, nul_later, nul_never}
+use Rattle.catalog.proofs.without_nul.Goals as goal
+
+pub loop-i-init : goal.loop-i-init
+loop-i-init c = refl
+
+pub returns-then-bytes-i-eq0 : goal.returns-then-bytes-i-eq0
+returns-then-bytes-i-eq0 c = search nul_here
+
+pub loop-i-preserved : goal.loop-i-preserved
+loop-i-preserved c = search nul_later
+
+pub returns : goal.returns
+returns c = search nul_never

@@ -1,0 +1,7 @@
+use Rattle.root.specs.Root.{checksum_fits}
+use borrow.Author.Rules.{rules}
+use Rattle.root.proofs.checksum_fits.Goals as goal
+
+pub returns : goal.returns
+unfolding checksum_fits
+returns c = simp (c.crc32c_with_zero.ensures, c.u32_at-stored.ensures)

@@ -1,0 +1,12 @@
+use Rattle.root.proofs.Choice.{select}
+use borrow.Author.Rules.{rules}
+use Rattle.root.proofs.select_root.Goals as goal
+
+pub returns-then-not-a : goal.returns-then-not-a
+returns-then-not-a c = search select
+
+pub returns-then-not-b : goal.returns-then-not-b
+returns-then-not-b c = search select
+
+pub returns : goal.returns
+returns c = search select

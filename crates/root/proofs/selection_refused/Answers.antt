@@ -1,0 +1,5 @@
+use borrow.Author.Rules.{rules}
+use Rattle.root.proofs.selection_refused.Goals as goal
+
+pub returns : goal.returns
+returns c = cc
