@@ -1,6 +1,7 @@
 // Runs every public call of the reader from outside: calls from standard input, a line for each on standard output. It takes the
 // arguments apart, calls and prints; the answers are the crates'.
 #![tactic(auto)]
+
 mod arguments;
 mod blocks;
 mod fields;
@@ -15,9 +16,12 @@ mod words;
 
 use arguments::Numbers;
 use fields::Fields;
-use libc::{STDERR_FILENO, STDIN_FILENO};
 use shape::Front;
-use stream::{Next, Read};
+use std::env::{Env, FillError};
+use std::io;
+use stream::{Next, Read, Reader};
+
+type Input = Reader<io::Stdin>;
 
 // The calls whose fields are a few numbers: those below 20.
 fn few(call: u8, n: Numbers, a: &[u8], b: &[u8]) -> Fields {
@@ -130,13 +134,15 @@ fn following(place: u64) -> u64 {
     }
 }
 
-fn flush(out: &[u8], used: usize) -> bool {
-    stream::send(out, used, b"probe: writing standard output")
+fn flush(rt: &HostRuntime, out: &[u8], used: usize) -> bool {
+    let what = b"probe: writing standard output";
+    stream::send(&mut rt.stdout(), &mut rt.stderr(), out, used, what)
 }
 
 // Behind a call that was answered.
-fn behind(s: Stand, length: usize, end: usize, out: &[u8]) -> Turn {
-    match stream::room(out, end, b"probe: writing standard output") {
+fn behind(rt: &HostRuntime, s: Stand, length: usize, end: usize, out: &[u8]) -> Turn {
+    let what = b"probe: writing standard output";
+    match stream::room(&mut rt.stdout(), &mut rt.stderr(), out, end, what) {
         Next::At(used) => Turn::Go(Stand {
             place: following(s.place),
             at: input::moved(s.at, length, s.have),
@@ -156,53 +162,59 @@ fn last_line(place: u64, is_whole: bool, line: &mut [u8]) -> usize {
 }
 
 // The last line stands in a buffer of its own, and goes out behind those that wait.
-fn last(place: u64, is_whole: bool) -> Turn {
+fn last(rt: &HostRuntime, place: u64, is_whole: bool) -> Turn {
     let mut line = [0u8; 32];
     let end = last_line(place, is_whole, &mut line);
-    flush(&line, end);
+    flush(rt, &line, end);
     Turn::Stop
 }
 
-fn cut(place: u64, out: &[u8], used: usize) -> Turn {
-    if !flush(out, used) {
+fn cut(rt: &HostRuntime, place: u64, out: &[u8], used: usize) -> Turn {
+    if !flush(rt, out, used) {
         return Turn::Stop;
     }
-    last(place, false)
+    last(rt, place, false)
 }
 
-fn failed() -> Turn {
-    os::fail(b"probe: reading standard input");
+fn failed(rt: &HostRuntime, why: io::Error) -> Turn {
+    let what = b"probe: reading standard input";
+    let _ = stream::fail(&mut rt.stderr(), what, why);
     Turn::Stop
 }
 
 // Sends the lines that wait, and reads on behind a call that isn't whole.
-fn refilled(s: Stand, window: &mut [u8], out: &[u8]) -> Turn {
-    if !flush(out, s.used) {
+fn refilled(rt: &HostRuntime, input: &mut Input, s: Stand, window: &mut [u8], out: &[u8]) -> Turn {
+    if !flush(rt, out, s.used) {
         return Turn::Stop;
     }
     let kept = input::slide(window, s.at, s.have);
-    match stream::read_behind(STDIN_FILENO, window, kept) {
+    match stream::read_behind(input, window, kept) {
         Read::Has(have) => Turn::Go(Stand {
             place: s.place,
             at: 0,
             have,
             used: 0,
         }),
-        Read::Failed => failed(),
-        _ => last(s.place, kept == 0),
+        Read::Failed => failed(rt, input.why),
+        _ => last(rt, s.place, kept == 0),
     }
 }
 
-fn step(s: Stand, window: &mut [u8], out: &mut [u8]) -> Turn {
+fn step(rt: &HostRuntime, input: &mut Input, s: Stand, window: &mut [u8], out: &mut [u8]) -> Turn {
     match one_call(s.place, octets::span(window, s.at, s.have), out, s.used) {
-        Call::Answered { length, end } => behind(s, length, end, out),
-        Call::Outside => cut(s.place, out, s.used),
-        Call::Short => refilled(s, window, out),
+        Call::Answered { length, end } => behind(rt, s, length, end, out),
+        Call::Outside => cut(rt, s.place, out, s.used),
+        Call::Short => refilled(rt, input, s, window, out),
     }
 }
 
 // A proved loop has to end, and nothing says that the input does: the turns are counted down from a number that no run uses up.
-fn run(window: &mut [u8], out: &mut [u8]) {
+fn run(rt: &HostRuntime, window: &mut [u8], out: &mut [u8]) {
+    let why = io::Error::from_raw_os_error(0);
+    let mut input = Reader {
+        from: rt.stdin(),
+        why,
+    };
     let mut s = Stand {
         place: 0,
         at: 0,
@@ -212,22 +224,20 @@ fn run(window: &mut [u8], out: &mut [u8]) {
     let mut turns: u64 = 0xFFFF_FFFF_FFFF_FFFF;
     while turns > 0 {
         turns -= 1;
-        let Turn::Go(next) = step(s, window, out) else {
+        let Turn::Go(next) = step(rt, &mut input, s, window, out) else {
             return;
         };
         s = next;
     }
 }
 
-fn main() {
-    if 1 < os::arg_count() {
-        io::write_all(
-            STDERR_FILENO,
-            b"usage: probe < FILE  (calls on standard input)\n",
-        );
+fn main(rt: HostRuntime) {
+    // Argument 0 is the program's name.
+    if !matches!(rt.arg(1, &mut []), Err(FillError::NotPresent)) {
+        let _ = rt.eprintln("usage: probe < FILE  (calls on standard input)");
         return;
     }
     let mut window = [0u8; 262_144];
     let mut out = [0u8; 65_536];
-    run(&mut window, &mut out);
+    run(&rt, &mut window, &mut out);
 }
