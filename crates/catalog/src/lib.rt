@@ -1,5 +1,6 @@
 // Records of the catalog: owner numbers, keys, timestamps, inodes, directory entries, extents. Document 01, section 5.
 #![tactic(auto)]
+
 ghost use Rattle.std.specs.Prelude.{◌≡◌, true, ◌≤◌, length};
 ghost use Rattle.error.specs.declared.Number.{Number as NumberOf};
 ghost use Rattle.error.specs.Demand.{outcome, demands};

@@ -7,7 +7,7 @@ use mathlib.Core.List.{List, ◌++◌}
 use native.Mathlib.Omega.{arith}
 use Rattle.error.specs.declared.Validation.{Validation}
 use Rattle.error.specs.declared.Validation.TheVariants.{Input}
-use Rattle.error.specs.declared.Check.TheVariants.{Passed, Refused}
+use Rattle.error.specs.declared.Check.TheVariants.{Passed}
 use Rattle.error.specs.declared.Number.{Number}
 use Rattle.error.specs.Demand.{AllHold}
 use Rattle.error.proofs.Exactly.{accepted_exactly, number_exactly, two_chains}

@@ -1,5 +1,6 @@
 // Records of every tree: allocation groups, cleanup, workspace runs, leaf records and internal records. Document 01, section 5.
 #![tactic(auto)]
+
 ghost use Rattle.std.specs.Prelude.{◌≡◌, ◌≤◌, length};
 ghost use Rattle.error.specs.Demand.{outcome, demands};
 ghost use Rattle.error.specs.Answer.{number_check};

@@ -1,5 +1,6 @@
 // Volume labels, roots, and the choice between two roots. Document 01, section 3.
 #![tactic(auto)]
+
 ghost use Rattle.std.specs.Prelude.{◌≡◌, ◌+◌, ◌≤◌, length};
 ghost use Rattle.octets.specs.Bytes.{part};
 ghost use Rattle.octets.specs.Number.{u16_at};

@@ -1,5 +1,6 @@
 // The walk over a page's records. `rest` is the block from byte 80 to its end: a record's two lengths are read even where they lie behind the payload's end. Document 01, section 5.
 #![tactic(auto)]
+
 ghost use Rattle.std.specs.Prelude.{◌≡◌, true, false, [], ◌≤◌, length, take};
 ghost use Rattle.walk.specs.Records.{leaf_rules, child_rules, is_one_of, walk, validate_records};
 ghost use Rattle.walk.specs.Inside.{form_of, join_of, turn_of, stored_blocks, Whole, Kept};

@@ -1,6 +1,5 @@
 use Rattle.error.proofs.Tests.{tests}
 use Rattle.error.proofs.Chain.{chain}
-use borrow.Author.Rules.{rules}
 use Rattle.catalog.proofs.extent_range.Goals as goal
 
 pub returns-then-not-sum_fits : goal.returns-then-not-sum_fits

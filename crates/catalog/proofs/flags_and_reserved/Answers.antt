@@ -1,5 +1,4 @@
 use Rattle.catalog.specs.Inode.{flags_and_reserved}
-use borrow.Author.Rules.{rules}
 use Rattle.catalog.proofs.flags_and_reserved.Goals as goal
 
 pub returns : goal.returns

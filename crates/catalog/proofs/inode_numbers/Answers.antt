@@ -1,5 +1,4 @@
 use Rattle.error.proofs.Chain.{chain}
-use borrow.Author.Rules.{rules}
 use Rattle.catalog.proofs.inode_numbers.Goals as goal
 
 pub returns-then-not-fields_in_range : goal.returns-then-not-fields_in_range

@@ -1,7 +1,6 @@
 use Rattle.catalog.specs.Inside.{inode_shape}
 use Rattle.error.proofs.Chain.{chain}
 use Rattle.catalog.proofs.Fields.{fields}
-use borrow.Author.Rules.{rules}
 use Rattle.catalog.proofs.inode_shape.Goals as goal
 
 pub returns-then-value-eq0 : goal.returns-then-value-eq0

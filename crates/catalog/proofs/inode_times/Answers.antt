@@ -1,7 +1,6 @@
 use Rattle.catalog.specs.Inside.{inode_times}
 use Rattle.error.proofs.Chain.{chain}
 use Rattle.catalog.proofs.Fields.{fields}
-use borrow.Author.Rules.{rules}
 use Rattle.catalog.proofs.inode_times.Goals as goal
 
 pub returns-in_default : goal.returns-in_default

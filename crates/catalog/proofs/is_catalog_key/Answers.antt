@@ -1,5 +1,4 @@
 use Rattle.catalog.proofs.Keys.{inode_key, entry_key, number_key}
-use borrow.Author.Rules.{rules}
 use Rattle.catalog.proofs.is_catalog_key.Goals as goal
 
 pub returns-then-kind-eq1 : goal.returns-then-kind-eq1

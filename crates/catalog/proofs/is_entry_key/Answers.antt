@@ -1,5 +1,4 @@
 use Rattle.catalog.proofs.Keys.{entry_other, entry_short, entry_long, entry_named}
-use borrow.Author.Rules.{rules}
 use Rattle.catalog.proofs.is_entry_key.Goals as goal
 
 pub returns-then-byte_at-ne2 : goal.returns-then-byte_at-ne2

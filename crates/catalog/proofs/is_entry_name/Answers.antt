@@ -1,5 +1,4 @@
 use Rattle.catalog.proofs.Entries.{name_empty, name_long, name_apart, name_read}
-use borrow.Author.Rules.{rules}
 use Rattle.catalog.proofs.is_entry_name.Goals as goal
 
 pub returns-then-n-lt1 : goal.returns-then-n-lt1

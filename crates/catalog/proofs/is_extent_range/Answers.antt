@@ -1,6 +1,5 @@
 use Rattle.volume.proofs.Sums.{fits_sum}
 use Rattle.catalog.proofs.Extents.{extent_empty, extent_reserved_lem, extent_long, extent_run}
-use borrow.Author.Rules.{rules}
 use Rattle.catalog.proofs.is_extent_range.Goals as goal
 
 pub returns-then-count-eq0 : goal.returns-then-count-eq0

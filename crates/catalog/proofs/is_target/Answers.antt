@@ -1,5 +1,4 @@
 use Rattle.catalog.specs.Inode.{is_target}
-use borrow.Author.Rules.{rules}
 use Rattle.catalog.proofs.is_target.Goals as goal
 
 pub returns : goal.returns

@@ -1,5 +1,4 @@
 use Rattle.catalog.proofs.Signed.{low_half, upper_fits, upper_half}
-use borrow.Author.Rules.{rules}
 use Rattle.catalog.proofs.signed_number.Goals as goal
 
 pub returns-then-word-lt9223372036854775808 : goal.returns-then-word-lt9223372036854775808

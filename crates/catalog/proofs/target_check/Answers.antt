@@ -1,5 +1,4 @@
 use Rattle.catalog.proofs.Entries.{target_read, target_none}
-use borrow.Author.Rules.{rules}
 use Rattle.catalog.proofs.target_check.Goals as goal
 
 pub returns-then-value-eq3 : goal.returns-then-value-eq3

@@ -1,4 +1,3 @@
-use borrow.Author.Rules.{rules}
 use Rattle.catalog.proofs.too_long.Goals as goal
 
 pub returns-in-Input : goal.returns-in-Input

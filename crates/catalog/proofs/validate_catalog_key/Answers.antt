@@ -1,7 +1,6 @@
 use Rattle.catalog.specs.Keys.{validate_catalog_key}
 use Rattle.error.proofs.Chain.{chain}
 use Rattle.catalog.proofs.Fields.{fields}
-use borrow.Author.Rules.{rules}
 use Rattle.catalog.proofs.validate_catalog_key.Goals as goal
 
 pub returns-then-key-lt9 : goal.returns-then-key-lt9

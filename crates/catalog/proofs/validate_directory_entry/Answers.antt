@@ -1,7 +1,6 @@
 use Rattle.catalog.specs.Entry.{validate_directory_entry}
 use Rattle.error.proofs.Chain.{chain}
 use Rattle.catalog.proofs.Fields.{fields}
-use borrow.Author.Rules.{rules}
 use Rattle.catalog.proofs.validate_directory_entry.Goals as goal
 
 pub returns-then-value-lt12 : goal.returns-then-value-lt12

@@ -1,7 +1,6 @@
 use Rattle.catalog.specs.Extent.{validate_extent}
 use Rattle.error.proofs.Chain.{chain}
 use Rattle.catalog.proofs.Fields.{fields}
-use borrow.Author.Rules.{rules}
 use Rattle.catalog.proofs.validate_extent.Goals as goal
 
 pub returns-then-key-lt17 : goal.returns-then-key-lt17

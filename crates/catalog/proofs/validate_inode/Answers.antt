@@ -1,7 +1,6 @@
 use Rattle.catalog.proofs.Entries.{shape_long, inode_ends, inode_grouped}
 use Rattle.error.proofs.Chain.{chain}
 use Rattle.catalog.proofs.Fields.{fields}
-use borrow.Author.Rules.{rules}
 use Rattle.catalog.proofs.validate_inode.Goals as goal
 
 pub returns-in_default : goal.returns-in_default

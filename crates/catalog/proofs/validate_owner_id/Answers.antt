@@ -1,6 +1,5 @@
 use Rattle.catalog.specs.Keys.{validate_owner_id}
 use Rattle.error.proofs.Chain.{chain}
-use borrow.Author.Rules.{rules}
 use Rattle.catalog.proofs.validate_owner_id.Goals as goal
 
 pub returns-then-owner-lt1 : goal.returns-then-owner-lt1

@@ -1,7 +1,6 @@
 use Rattle.catalog.specs.Inode.{validate_symlink_target}
 use Rattle.error.proofs.Chain.{chain}
 use Rattle.catalog.proofs.Fields.{fields}
-use borrow.Author.Rules.{rules}
 use Rattle.catalog.proofs.validate_symlink_target.Goals as goal
 
 pub returns-then-target-gt-MAX_SYMLINK_TARGET : goal.returns-then-target-gt-MAX_SYMLINK_TARGET

@@ -1,7 +1,6 @@
 use Rattle.catalog.specs.Times.{validate_timestamp_range}
 use Rattle.error.proofs.Chain.{chain}
 use Rattle.catalog.proofs.Fields.{fields}
-use borrow.Author.Rules.{rules}
 use Rattle.catalog.proofs.validate_timestamp_range.Goals as goal
 
 pub returns-then-not-seconds_in_range : goal.returns-then-not-seconds_in_range

@@ -1,8 +1,4 @@
-use mathlib.Core.Path.{◌≡◌, refl}
-use Prim.Native.Nat.{◌-◌}
-use lib.ListN.{length, drop}
-use borrow.Author.Rules.{rules}
-use Rattle.catalog.specs.Inode.{without_nul}
+use mathlib.Core.Path.{refl}
 use Rattle.catalog.proofs.Nul.{nul_here, nul_later, nul_never}
 use Rattle.catalog.proofs.without_nul.Goals as goal
 

@@ -1,9 +1,7 @@
-use mathlib.Core.Path.{◌≡◌, refl}
+use mathlib.Core.Path.{◌≡◌}
 use Prim.Native.Nat.{◌-◌}
 use lib.ListN.{length, drop}
-use borrow.Author.Rules.{rules}
 use Rattle.catalog.specs.Inode.{without_nul}
-use Rattle.catalog.proofs.Nul.{nul_here, nul_later, nul_never}
 use Rattle.catalog.proofs.without_nul.Given as goal
 
 abbrev pub invariant-loop-i : goal.invariant-loop-i

@@ -1,5 +1,4 @@
 use Rattle.root.specs.Root.{are_sizes_right}
-use borrow.Author.Rules.{rules}
 use Rattle.root.proofs.are_sizes_right.Goals as goal
 
 pub returns : goal.returns

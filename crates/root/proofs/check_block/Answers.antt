@@ -4,7 +4,6 @@ use Rattle.error.proofs.Exactly.{after}
 use Rattle.error.proofs.Chain.{chain, each, handed_on, last_check}
 use Rattle.root.specs.Root.{check_block}
 use Rattle.root.proofs.Decode.{place_size}
-use borrow.Author.Rules.{rules}
 use Rattle.root.proofs.check_block.Goals as goal
 
 pub returns-in_default : goal.returns-in_default

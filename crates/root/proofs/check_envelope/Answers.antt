@@ -2,7 +2,6 @@ use mathlib.Core.Path.{sym}
 use Rattle.error.proofs.Exactly.{all_pass}
 use Rattle.error.proofs.Chain.{chain, each}
 use Rattle.root.specs.Root.{check_envelope}
-use borrow.Author.Rules.{rules}
 use Rattle.root.proofs.check_envelope.Goals as goal
 
 pub returns-then-not-checksum_fits : goal.returns-then-not-checksum_fits

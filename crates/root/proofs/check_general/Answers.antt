@@ -2,7 +2,6 @@ use Rattle.root.proofs.Numbers.{not_below_of}
 use mathlib.Core.Path.{◌∙◌}
 use Rattle.error.proofs.Chain.{chain, each, refused_at, refused_same}
 use Rattle.root.specs.Fields.{check_general}
-use borrow.Author.Rules.{rules}
 use Rattle.root.proofs.check_general.Goals as goal
 
 pub returns-in_default : goal.returns-in_default

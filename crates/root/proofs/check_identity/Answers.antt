@@ -1,6 +1,5 @@
 use Rattle.error.proofs.Chain.{chain}
 use Rattle.root.specs.Root.{check_identity}
-use borrow.Author.Rules.{rules}
 use Rattle.root.proofs.check_identity.Goals as goal
 
 pub returns-then-u64_at-ne0 : goal.returns-then-u64_at-ne0

@@ -1,7 +1,6 @@
 use Rattle.error.proofs.Chain.{chain}
 use Rattle.root.specs.Root.{check_label}
 use Rattle.root.proofs.Text.{texts}
-use borrow.Author.Rules.{rules}
 use Rattle.root.proofs.check_label.Goals as goal
 
 pub returns-then-n-gt-MAX_BYTES : goal.returns-then-n-gt-MAX_BYTES

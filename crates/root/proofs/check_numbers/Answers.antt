@@ -1,6 +1,5 @@
 use Rattle.error.proofs.Chain.{chain}
 use Rattle.root.specs.Fields.{check_numbers}
-use borrow.Author.Rules.{rules}
 use Rattle.root.proofs.check_numbers.Goals as goal
 
 pub returns-then-object-lt2 : goal.returns-then-object-lt2

@@ -1,6 +1,5 @@
 use Rattle.error.proofs.Chain.{chain}
 use Rattle.root.specs.Fields.{check_refs}
-use borrow.Author.Rules.{rules}
 use Rattle.root.proofs.check_refs.Goals as goal
 
 pub returns-in_default : goal.returns-in_default

@@ -1,6 +1,5 @@
 use Rattle.error.proofs.Chain.{chain}
 use Rattle.root.specs.Root.{check_text}
-use borrow.Author.Rules.{rules}
 use Rattle.root.proofs.check_text.Goals as goal
 
 pub returns-then-not-is_utf8 : goal.returns-then-not-is_utf8

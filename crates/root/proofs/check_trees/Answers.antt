@@ -1,6 +1,5 @@
 use Rattle.error.proofs.Chain.{chain}
 use Rattle.root.specs.Fields.{check_trees}
-use borrow.Author.Rules.{rules}
 use Rattle.root.proofs.check_trees.Goals as goal
 
 pub returns-then-not-are_apart : goal.returns-then-not-are_apart

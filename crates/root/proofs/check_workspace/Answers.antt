@@ -1,6 +1,5 @@
 use Rattle.error.proofs.Chain.{chain}
 use Rattle.root.specs.Fields.{check_workspace}
-use borrow.Author.Rules.{rules}
 use Rattle.root.proofs.check_workspace.Goals as goal
 
 pub returns-in_default : goal.returns-in_default

@@ -1,5 +1,4 @@
 use Rattle.root.specs.Root.{checksum_fits}
-use borrow.Author.Rules.{rules}
 use Rattle.root.proofs.checksum_fits.Goals as goal
 
 pub returns : goal.returns

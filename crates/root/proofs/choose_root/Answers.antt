@@ -1,5 +1,4 @@
 use Rattle.root.proofs.Choice.{choose}
-use borrow.Author.Rules.{rules}
 use Rattle.root.proofs.choose_root.Goals as goal
 
 pub returns-in-Refused : goal.returns-in-Refused

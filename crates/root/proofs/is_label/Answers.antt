@@ -1,5 +1,4 @@
 use Rattle.root.specs.Label.{is_label}
-use borrow.Author.Rules.{rules}
 use Rattle.root.proofs.is_label.Goals as goal
 
 pub returns : goal.returns

@@ -1,5 +1,4 @@
 use Rattle.root.specs.Label.{label_of}
-use borrow.Author.Rules.{rules}
 use Rattle.root.proofs.label_of.Goals as goal
 
 pub returns : goal.returns

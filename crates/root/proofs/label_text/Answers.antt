@@ -1,5 +1,4 @@
 use Rattle.root.proofs.Text.{text_part}
-use borrow.Author.Rules.{rules}
 use Rattle.root.proofs.label_text.Goals as goal
 
 pub returns : goal.returns

@@ -1,6 +1,5 @@
 use Rattle.root.proofs.Text.{text_short}
 use Rattle.root.specs.Root.{root_of}
-use borrow.Author.Rules.{rules}
 use Rattle.root.proofs.root_of.Goals as goal
 
 pub label_of-label-requires : goal.label_of-label-requires

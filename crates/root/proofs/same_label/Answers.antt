@@ -1,5 +1,4 @@
 use Rattle.root.proofs.Choice.{labels}
-use borrow.Author.Rules.{rules}
 use Rattle.root.proofs.same_label.Goals as goal
 
 pub returns-then-not-has_a : goal.returns-then-not-has_a

@@ -1,5 +1,4 @@
 use Rattle.root.specs.Select.{same_root}
-use borrow.Author.Rules.{rules}
 use Rattle.root.proofs.same_root.Goals as goal
 
 pub returns : goal.returns

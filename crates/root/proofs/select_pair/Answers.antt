@@ -1,5 +1,4 @@
 use Rattle.root.proofs.Choice.{choices}
-use borrow.Author.Rules.{rules}
 use Rattle.root.proofs.select_pair.Goals as goal
 
 pub returns-then-not-same_bytes : goal.returns-then-not-same_bytes

@@ -1,5 +1,4 @@
 use Rattle.root.proofs.Choice.{select}
-use borrow.Author.Rules.{rules}
 use Rattle.root.proofs.select_root.Goals as goal
 
 pub returns-then-not-a : goal.returns-then-not-a

@@ -1,5 +1,4 @@
 use Rattle.root.proofs.Choice.{select}
-use borrow.Author.Rules.{rules}
 use Rattle.root.proofs.select_second.Goals as goal
 
 pub returns-then-not-b : goal.returns-then-not-b

@@ -1,5 +1,4 @@
 use Rattle.root.proofs.Choice.{supported}
-use borrow.Author.Rules.{rules}
 use Rattle.root.proofs.supported_root.Goals as goal
 
 pub returns-then-class-eq0 : goal.returns-then-class-eq0

@@ -1,5 +1,4 @@
 use Rattle.root.proofs.Text.{uuid_part}
-use borrow.Author.Rules.{rules}
 use Rattle.root.proofs.uuid_at.Goals as goal
 
 pub returns : goal.returns

@@ -3,7 +3,6 @@ use mathlib.Core.List.{[], ◌∷◌}
 use Rattle.error.proofs.Exactly.{after}
 use Rattle.error.proofs.Chain.{chain, each, handed_on, last_check}
 use Rattle.root.specs.Fields.{validate_root_fields}
-use borrow.Author.Rules.{rules}
 use Rattle.root.proofs.validate_root_fields.Goals as goal
 
 pub returns-in_default : goal.returns-in_default

@@ -1,7 +1,6 @@
 use Rattle.root.proofs.Text.{label_short, label_same, label_refused_same}
 use Rattle.error.proofs.Chain.{chain}
 use Rattle.root.specs.Label.{label_new}
-use borrow.Author.Rules.{rules}
 use Rattle.root.proofs.Label.new.Goals as goal
 
 pub returns-then-not-is_label : goal.returns-then-not-is_label

@@ -1,5 +1,4 @@
 use Rattle.root.proofs.Decode.{block_read, block_refused, fields_refused, root_decoded}
-use borrow.Author.Rules.{rules}
 use Rattle.root.proofs.Root.decode.Goals as goal
 
 pub returns-in_default : goal.returns-in_default

@@ -1,5 +1,4 @@
 use Rattle.root.specs.Root.{no_root}
-use borrow.Author.Rules.{rules}
 use Rattle.root.proofs.Root.none.Goals as goal
 
 pub returns : goal.returns
