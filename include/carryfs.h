@@ -1,5 +1,5 @@
 /*
- * The proved reader of carryfs volumes, for C. Link target/staticlib/libcarryfs.a (rt staticlib carryfs, for x86-64).
+ * The proved reader of carryfs volumes, for C. Link target/staticlib/libcarryfs.a (tools/build staticlib carryfs, for x86-64).
  *
  * Each function reads what it is lent and answers; it allocates nothing and keeps nothing, and may be called from any thread.
  * A part of memory is a pointer and a number of elements, all of them there while the call runs. No pointer may be NULL, also

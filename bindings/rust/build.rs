@@ -1,4 +1,4 @@
-//! Finds libcarryfs.a: in CARRYFS_LIB_DIR, else in target/staticlib of the repository, where `rt` brings it up to date.
+//! Finds libcarryfs.a: in CARRYFS_LIB_DIR, else in target/staticlib of the repository, where `tools/build` brings it up to date.
 //! For the tests it also finds the reference's source (CARRYFS_SRC, else ../shared/docs/src from the top of the repository);
 //! without it the tests that need it are left out.
 use std::env;
@@ -36,7 +36,7 @@ fn library_given(folder: PathBuf) -> PathBuf {
 fn library_of_repository(top: &Path) -> PathBuf {
     let folder = top.join("target/staticlib");
     let help =
-        "build it with `rt staticlib carryfs` at the top of the repository, or name its folder in CARRYFS_LIB_DIR";
+        "build it with `tools/build staticlib carryfs` at the top of the repository, or name its folder in CARRYFS_LIB_DIR";
     if !top.join("crates.txt").is_file() {
         fail(&format!(
             "no {LIBRARY}: {} isn't the project's repository; name its folder in CARRYFS_LIB_DIR",
@@ -44,7 +44,7 @@ fn library_of_repository(top: &Path) -> PathBuf {
         ));
     }
     if Command::new("rt").arg("version").output().is_ok_and(|output| output.status.success()) {
-        // rt staticlib carryfs, where something has changed
+        // rt lib in crates/carryfs_c, where something has changed
         match Command::new(top.join("tools/build")).args(["staticlib", "carryfs"]).current_dir(top).output() {
             Ok(output) if output.status.success() => {}
             Ok(output) => {
