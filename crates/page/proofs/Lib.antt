@@ -1,4 +1,1 @@
 pub mod Content
-pub mod Lent
-mod Viewed
-pub mod Asked

@@ -1,5 +1,6 @@
 // Pages: the header, the records, the answer in numbers, and the view that refers to the payload. Document 01, section 4.
 #![tactic(auto)]
+
 pub mod header;
 pub mod view;
 

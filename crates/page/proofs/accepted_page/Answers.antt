@@ -1,0 +1,4 @@
+use Rattle.page.proofs.accepted_page.Goals as goal
+
+pub returns : goal.returns
+returns c = cc
