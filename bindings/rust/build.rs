@@ -35,8 +35,7 @@ fn library_given(folder: PathBuf) -> PathBuf {
 
 fn library_of_repository(top: &Path) -> PathBuf {
     let folder = top.join("target/staticlib");
-    let help =
-        "build it with `tools/build staticlib carryfs` at the top of the repository, or name its folder in CARRYFS_LIB_DIR";
+    let help = "build it with `tools/build staticlib carryfs` at the top of the repository, or name its folder in CARRYFS_LIB_DIR";
     if !top.join("crates.txt").is_file() {
         fail(&format!(
             "no {LIBRARY}: {} isn't the project's repository; name its folder in CARRYFS_LIB_DIR",
