@@ -1,0 +1,5 @@
+use borrow.Author.Rules.{rules}
+use Rattle.hand.proofs.first_numbers.Goals as goal
+
+pub returns : goal.returns
+returns c = cc
