@@ -5,19 +5,16 @@ use borrow.Author.Rules.{rules}
 use Rattle.carryfs.proofs.carryfs_root.Goals as goal
 
 pub returns-then-out-lt18 : goal.returns-then-out-lt18
-returns-then-out-lt18 c = let t = lt-leb _ _ c.if-out-lt18.true in (rw t, (rw t, rw t))
+returns-then-out-lt18 c = let t = lt-leb _ _ c.if-out-lt18.true in record { value = rw t; out_after = rw t; text_after = rw t }
 
 pub returns-then-text-lt271 : goal.returns-then-text-lt271
 returns-then-text-lt271 c =
     let t = lt-leb _ _ c.if-text-lt271.true in
     let l = le-leb _ _ c.if-out-lt18.false in
-    (rw (l, t), (rw (l, t), rw (l, t)))
-
-pub put_words-requires : goal.put_words-requires
-put_words-requires c = omega (arith, slice-aggregate-put-words c)
+    record { value = rw (l, t); out_after = rw (l, t); text_after = rw (l, t) }
 
 pub returns : goal.returns
 returns c =
     let t = le-leb _ _ c.if-text-lt271.false in
     let l = le-leb _ _ c.if-out-lt18.false in
-    (rw (l, t), (c.put_words.ensures ∙ rw (c.root_words-words.ensures, c.decode-decoded.ensures, l, t), c.put_text.ensures ∙ rw (c.decode-decoded.ensures, l, t)))
+    record { value = rw (l, t); out_after = c.put_words.ensures ∙ rw (c.root_words-words.ensures, c.decode-decoded.ensures, l, t); text_after = c.put_text.ensures ∙ rw (c.decode-decoded.ensures, l, t) }

@@ -11,4 +11,4 @@ unfolding root_text
 returns c =
     let root = c.args.root in
     laid_over (laid_then c.put-behind.ensures c.put.ensures)
-    (omega (arith, length-append root.uuid root.label.bytes, slice-aggregate-put c, slice-aggregate-put-2 c, c.requires))
+    (omega (arith, length-append root.uuid root.label.bytes, c.requires))
