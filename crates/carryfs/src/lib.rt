@@ -18,16 +18,14 @@ use root::{Decoded, Root, Selected, Supported};
 use volume::TreeRef;
 
 // The checksum of `bytes`.
-#[unsafe(no_mangle)]
-pub extern "C" fn carryfs_crc32c(bytes: &[u8]) -> u32
+pub fn carryfs_crc32c(bytes: &[u8]) -> u32
     ensures { result ≡ crc32c bytes.now }
 {
     crc::crc32c(bytes)
 }
 
 // The register after `bytes`, with no inversion at either end.
-#[unsafe(no_mangle)]
-pub extern "C" fn carryfs_extend(register: u32, bytes: &[u8]) -> u32
+pub fn carryfs_extend(register: u32, bytes: &[u8]) -> u32
     ensures { result ≡ extend register bytes.now }
 {
     crc::software_extend(register, bytes)
@@ -71,8 +69,7 @@ fn slot_words(slot: Slot) -> [u64; 4]
 }
 
 // The word in a slot of a checksum group.
-#[unsafe(no_mangle)]
-pub extern "C" fn carryfs_slot(group: &[u8], slot: usize, out: &mut [u64]) -> u32
+pub fn carryfs_slot(group: &[u8], slot: usize, out: &mut [u64]) -> u32
     ensures { (result ≡ status_of (room 4 out.old)) × (out.new ≡ placed (room 4 out.old) (slot_words (checksum_slot group.now slot)) out.old) }
 {
     let words = slot_words(group::checksum_slot(group, slot));
@@ -89,8 +86,7 @@ fn check_words(check: Check) -> [u64; 2]
 }
 
 // A checksum group's record, as it stands in a leaf of the catalog.
-#[unsafe(no_mangle)]
-pub extern "C" fn carryfs_group(key: &[u8], value: &[u8], out: &mut [u64]) -> u32
+pub fn carryfs_group(key: &[u8], value: &[u8], out: &mut [u64]) -> u32
     ensures { (result ≡ status_of (room 2 out.old)) × (out.new ≡ placed (room 2 out.old) (group_words key.now value.now) out.old) }
 {
     let words = check_words(group::validate_checksum_group(key, value, Validation::Disk));
@@ -115,8 +111,7 @@ fn asked_unit(uuid: &[u8], object: u64, unit: u64, valid: &[u8]) -> [u64; 3]
 }
 
 // The word of a unit of a file's data, from its valid bytes.
-#[unsafe(no_mangle)]
-pub extern "C" fn carryfs_data_unit(
+pub fn carryfs_data_unit(
     uuid: &[u8],
     object: u64,
     unit: u64,
@@ -146,8 +141,7 @@ fn step_words(step: Step) -> [u64; 5]
 }
 
 // The record at the front of a part with so many records left.
-#[unsafe(no_mangle)]
-pub extern "C" fn carryfs_next(part: &[u8], remaining: usize, out: &mut [u64]) -> u32
+pub fn carryfs_next(part: &[u8], remaining: usize, out: &mut [u64]) -> u32
     ensures { (result ≡ status_of (room 5 out.old)) × (out.new ≡ placed (room 5 out.old) (step_words (next_record part.now remaining)) out.old) }
 {
     let words = step_words(lookup::next_record(part, remaining));
@@ -166,8 +160,7 @@ fn floor_words(answer: Answer) -> [u64; 4]
 }
 
 // The last record whose key is not above the sought one. Without room for the answer the scratch isn't written either.
-#[unsafe(no_mangle)]
-pub extern "C" fn carryfs_lookup(
+pub fn carryfs_lookup(
     payload: &[u8],
     count: usize,
     key: &[u8],
@@ -230,8 +223,7 @@ fn put_text(root: Root, text: &mut [u8])
 }
 
 // The root in a slot's block: its numbers in `out`, its UUID and its label's bytes in `text`.
-#[unsafe(no_mangle)]
-pub extern "C" fn carryfs_root(
+pub fn carryfs_root(
     bytes: &[u8],
     slot: u64,
     blocks: u64,
@@ -275,8 +267,7 @@ fn choice_words(chosen: Selected) -> [u64; 4]
 }
 
 // The current root of two slots' blocks.
-#[unsafe(no_mangle)]
-pub extern "C" fn carryfs_select(
+pub fn carryfs_select(
     first: &[u8],
     first_slot: u64,
     first_blocks: u64,
@@ -335,8 +326,7 @@ fn asked_page(
 }
 
 // The page that a reference names.
-#[unsafe(no_mangle)]
-pub extern "C" fn carryfs_page(
+pub fn carryfs_page(
     bytes: &[u8],
     block: u64,
     generation: u64,

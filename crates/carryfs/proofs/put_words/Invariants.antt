@@ -1,0 +1,13 @@
+use mathlib.Core.Path.{◌≡◌}
+use Prim.Native.Nat.{◌≤◌, ◌-◌}
+use lib.ListN.{length, length-set}
+use borrow.Author.Rules.{rules}
+use Rattle.carryfs.proofs.Fill.{put_more, put_all}
+use lib.Seq.{paste, paste-zero}
+use Rattle.carryfs.proofs.put_words.Given as goal
+
+abbrev pub invariant-loop-i : goal.invariant-loop-i
+invariant-loop-i l = (l.i ≤ length l.words) × (length l.out ≡ length l.initial.out) × (l.out ≡ paste l.initial.out 0 l.words l.i)
+
+abbrev pub decreases-loop-i : goal.decreases-loop-i
+decreases-loop-i l = length l.words - l.i

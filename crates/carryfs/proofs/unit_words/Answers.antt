@@ -1,0 +1,11 @@
+use borrow.Author.Rules.{rules}
+use Rattle.carryfs.specs.Words.{unit_words}
+use Rattle.carryfs.proofs.unit_words.Goals as goal
+
+pub returns-in-Value : goal.returns-in-Value
+unfolding unit_words
+returns-in-Value c = rw c.in-Value.is
+
+pub returns-in-Refused : goal.returns-in-Refused
+unfolding unit_words
+returns-in-Refused c = rw (c.reason_of.ensures, c.class_of.ensures, c.in-Refused.is)
