@@ -9,19 +9,15 @@ use lib.ListN.{length, get_or, drop, drop_of_length-le}
 use lib.Seq.{drop-cons}
 use native.Mathlib.Omega.{arith}
 use borrow.Author.Tests.{le-leb, lt-leb, eq-eqb, ne_eqb}
-use types.Run.{OneOf}
-use denote.Enum.Declared.{tag_of}
 use Rattle.shape.specs.declared.Front.{Front}
 use Rattle.shape.specs.declared.Front.TheVariants.{Whole, Short, Outside}
 use Rattle.shape.specs.Call.{Item, read_item, read_bytes, then_read, reads}
 use Rattle.shape.specs.Inside.{item_at, items_from, items_of, items_of_all, takes_nothing, digits_in}
 use Rattle.shape.specs.Calls.{items_in, calls, known_front}
-use Rattle.shape.specs.contracts.Front.{the_type}
 
 -- a part that isn't whole answers for all
-pub stops : (f : Front) (g : ℕ → Front) → OneOf (1 ∷ 2 ∷ []) (tag_of the_type f) → f ≡ then_read f g
-stops (Whole n) g (inl e) = let z : ◌≡◌ {A = ℕ} 0 1 = e in absurd (omega (arith, z))
-stops (Whole n) g (inr e) = let z : ◌≡◌ {A = ℕ} 0 2 = e in absurd (omega (arith, z))
+pub stops : (f : Front) (g : ℕ → Front) → ((n : ℕ) → f ≡ Whole n → ⊥) → f ≡ then_read f g
+stops (Whole n) g k = absurd (k n refl)
 stops Short g k = refl
 stops Outside g k = refl
 
@@ -50,7 +46,7 @@ reads_join (x ∷ xs) ys input at =
     ∙ join (read_item x input at) (reads xs input) (reads ys input)
 
 -- some items that aren't whole answer for those behind them
-pub stop_join : {f : Front} (xs ys : List Item) (input : List ℕ) (at : ℕ) → f ≡ reads xs input at → OneOf (1 ∷ 2 ∷ []) (tag_of the_type f) → f ≡ reads (xs ++ ys) input at
+pub stop_join : {f : Front} (xs ys : List Item) (input : List ℕ) (at : ℕ) → f ≡ reads xs input at → ((n : ℕ) → f ≡ Whole n → ⊥) → f ≡ reads (xs ++ ys) input at
 stop_join {f} xs ys input at e k = rw (reads_join xs ys input at, sym e) (stops f (reads ys input) k)
 
 -- behind whole ones the others are read
@@ -83,7 +79,7 @@ row_on {f} {end} i rest input at l e w =
     one_less i l = omega (arith, l)
 
 -- one that isn't
-pub row_off : {f : Front} (i rest : ℕ) (input : List ℕ) (at : ℕ) → i < 11 → f ≡ reads (item_at i (rest % 16)) input at → OneOf (1 ∷ 2 ∷ []) (tag_of the_type f) → f ≡ reads (items_from (11 - i) i rest) input at
+pub row_off : {f : Front} (i rest : ℕ) (input : List ℕ) (at : ℕ) → i < 11 → f ≡ reads (item_at i (rest % 16)) input at → ((n : ℕ) → f ≡ Whole n → ⊥) → f ≡ reads (items_from (11 - i) i rest) input at
 unfolding items_from
 row_off {f} i rest input at l e k =
     stop_join (item_at i (rest % 16)) (items_from (11 - (i + 1)) (i + 1) (rest / 16)) input at e k
@@ -115,7 +111,7 @@ rows_on rows i input at l e w =
     ap (λ xs. reads (items_of_all xs) input at) (here rows i l) ∙ go_join (items_of (get_or rows i 0)) (items_of_all (drop (i + 1) rows)) input at e w
 
 -- one that isn't
-pub rows_off : {f : Front} (rows : List ℕ) (i : ℕ) (input : List ℕ) (at : ℕ) → i < length rows → f ≡ reads (items_of (get_or rows i 0)) input at → OneOf (1 ∷ 2 ∷ []) (tag_of the_type f) → f ≡ reads (items_of_all (drop i rows)) input at
+pub rows_off : {f : Front} (rows : List ℕ) (i : ℕ) (input : List ℕ) (at : ℕ) → i < length rows → f ≡ reads (items_of (get_or rows i 0)) input at → ((n : ℕ) → f ≡ Whole n → ⊥) → f ≡ reads (items_of_all (drop i rows)) input at
 unfolding items_of_all
 rows_off rows i input at l e k =
     stop_join (items_of (get_or rows i 0)) (items_of_all (drop (i + 1) rows)) input at e k

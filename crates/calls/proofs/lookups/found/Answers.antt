@@ -1,0 +1,7 @@
+use Rattle.carryfs.specs.Words.{floor_words}
+use borrow.Author.Rules.{rules}
+use Rattle.calls.proofs.lookups.found.Goals as goal
+
+pub returns : goal.returns
+unfolding floor_words
+returns c = simp (c.four.ensures, c.flag_of.ensures)

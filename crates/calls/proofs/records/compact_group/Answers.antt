@@ -1,0 +1,6 @@
+use Rattle.calls.proofs.Front.{front_length}
+use borrow.Author.Rules.{rules}
+use Rattle.calls.proofs.records.compact_group.Goals as goal
+
+pub returns : goal.returns
+returns c = simp (c.one.ensures, c.compact_group-front.ensures.bytes, front_length)

@@ -1,0 +1,5 @@
+use borrow.Author.Rules.{rules}
+use Rattle.calls.proofs.tell.bit.Goals as goal
+
+pub returns : goal.returns
+returns c = simp (c.one.ensures, c.flag_of.ensures)

@@ -1,0 +1,5 @@
+use borrow.Author.Rules.{rules}
+use Rattle.calls.proofs.tell.check.Goals as goal
+
+pub returns : goal.returns
+returns c = simp (c.check_reason.ensures, c.check_class.ensures)

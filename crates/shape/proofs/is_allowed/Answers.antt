@@ -1,0 +1,5 @@
+use borrow.Author.Rules.{rules}
+use Rattle.shape.proofs.is_allowed.Goals as goal
+
+pub returns : goal.returns
+returns c = simp (c.most.ensures, c.least.ensures)

@@ -1,0 +1,18 @@
+use borrow.Author.Tests.{not-true, not-false}
+use Rattle.shape.proofs.Reading.{stops}
+use Rattle.shape.specs.Call.{read_string}
+use mathlib.Core.Path.{sym}
+use borrow.Author.Rules.{rules}
+use Rattle.shape.proofs.read_string.Goals as goal
+
+pub returns-in_default : goal.returns-in_default
+unfolding read_string
+returns-in_default c = rw (sym c.read_bytes-front.ensures) (stops _ _ c.in_default.not-Whole)
+
+pub returns-then-not-is_allowed : goal.returns-then-not-is_allowed
+unfolding read_string
+returns-then-not-is_allowed c = let b = c.read_bytes-front in rw (sym b.ensures, c.in-Whole.is, sym c.u32_at-length.ensures, sym c.is_allowed.ensures, c.if-not-is_allowed.true)
+
+pub returns : goal.returns
+unfolding read_string
+returns c = let b = c.read_bytes-front in rw (sym b.ensures, c.in-Whole.is, sym c.u32_at-length.ensures, sym c.is_allowed.ensures, c.if-not-is_allowed.false) c.read_bytes.ensures
