@@ -1,5 +1,6 @@
 // The bodies that the program readback reads, and the line that each gives. Document 01, "The program readback".
 #![tactic(auto)]
+
 ghost use Rattle.std.specs.Prelude.{◌≡◌};
 ghost use Rattle.octets.specs.Bytes.{Laid};
 ghost use Rattle.body.specs.Body.{names_aTree, decoded_line, root_body_line, page_body_line};

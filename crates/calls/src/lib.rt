@@ -1,5 +1,6 @@
 // What a call of the program probe answers, in numbers: the function that the call names, on the call's numbers and strings.
 #![tactic(auto)]
+
 mod blocks;
 pub mod choice;
 pub mod lookups;

@@ -1,6 +1,7 @@
 // The C interface of the reader: include/carryfs.h says what each function answers. A slice is a pointer and a length, a result a
 // number. Answers of several numbers are written as words at the front of a lent array, or not at all where it has no room for them.
 #![tactic(auto)]
+
 ghost use Rattle.std.specs.Prelude.{◌≡◌, ◌&&◌, cond, ◌≤◌, length};
 ghost use Rattle.crc.specs.Crc.{extend, crc32c};
 ghost use Rattle.crc.specs.DataUnit.{data_unit_crc};
@@ -111,13 +112,7 @@ fn asked_unit(uuid: &[u8], object: u64, unit: u64, valid: &[u8]) -> [u64; 3]
 }
 
 // The word of a unit of a file's data, from its valid bytes.
-pub fn carryfs_data_unit(
-    uuid: &[u8],
-    object: u64,
-    unit: u64,
-    valid: &[u8],
-    out: &mut [u64],
-) -> u32
+pub fn carryfs_data_unit(uuid: &[u8], object: u64, unit: u64, valid: &[u8], out: &mut [u64]) -> u32
     ensures value { result ≡ asked_status (is_uuid (length uuid.now)) (room 3 out.old) }
     ensures out_after { out.new ≡ placed (is_uuid (length uuid.now) && room 3 out.old) (unit_words (data_unit_crc uuid.now object unit valid.now)) out.old }
 {
@@ -223,13 +218,7 @@ fn put_text(root: Root, text: &mut [u8])
 }
 
 // The root in a slot's block: its numbers in `out`, its UUID and its label's bytes in `text`.
-pub fn carryfs_root(
-    bytes: &[u8],
-    slot: u64,
-    blocks: u64,
-    out: &mut [u64],
-    text: &mut [u8],
-) -> u32
+pub fn carryfs_root(bytes: &[u8], slot: u64, blocks: u64, out: &mut [u64], text: &mut [u8]) -> u32
     ensures value { result ≡ status_of (room 18 out.old && room 271 text.old) }
     ensures out_after { out.new ≡ placed (room 18 out.old && room 271 text.old) (root_words (root_decode bytes.now slot blocks)) out.old }
     ensures text_after { text.new ≡ placed (room 18 out.old && room 271 text.old) (root_text (root_decode bytes.now slot blocks).root) text.old }

@@ -1,5 +1,6 @@
 // What a caller of the views sees, in numbers: for callers that can't hold a view. Document 01, sections 4, 5 and 7.
 #![tactic(auto)]
+
 ghost use Rattle.std.specs.Prelude.{◌≡◌, length};
 ghost use Rattle.lookup.specs.Floor.{scratch_of};
 ghost use Rattle.page.specs.Page.{decode_page};

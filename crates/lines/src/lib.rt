@@ -1,6 +1,7 @@
 // The line of a call of probe, from the call's bytes on, laid into a lent buffer.
 // Each function that is lent `out` lays its text into the buffer from `at` on and returns the place behind it; what the buffer has no room for is left out.
 #![tactic(auto)]
+
 ghost use Rattle.std.specs.Prelude.{◌≡◌, replicate};
 ghost use Rattle.octets.specs.Bytes.{Laid};
 ghost use Rattle.group.specs.Group.{expand_group};

@@ -1,5 +1,6 @@
 // The numbers and strings of a call, and their limits: where a call on standard input ends.
 #![tactic(auto)]
+
 ghost use Rattle.std.specs.Prelude.{◌≡◌, ◌≤◌};
 ghost use Rattle.shape.specs.Call.{in_range, read_bytes, read_number, read_string, reads};
 ghost use Rattle.shape.specs.Calls.{items_in, calls, call_front, strings_at};

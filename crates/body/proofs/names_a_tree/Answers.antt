@@ -1,4 +1,3 @@
-use borrow.Author.Rules.{rules}
 use Rattle.body.proofs.names_a_tree.Goals as goal
 
 pub returns : goal.returns

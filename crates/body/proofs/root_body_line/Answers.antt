@@ -1,5 +1,4 @@
 use Rattle.body.specs.Body.{root_body_line}
-use borrow.Author.Rules.{rules}
 use Rattle.body.proofs.root_body_line.Goals as goal
 
 pub returns : goal.returns

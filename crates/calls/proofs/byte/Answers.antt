@@ -1,6 +1,5 @@
 use Rattle.calls.specs.Told.{at_most}
 use borrow.Author.Tests.{le-leb, lt-leb}
-use borrow.Author.Rules.{rules}
 use Rattle.calls.proofs.byte.Goals as goal
 
 pub returns-then-value-le255 : goal.returns-then-value-le255

@@ -1,7 +1,6 @@
 use mathlib.Core.Path.{refl}
 use Rattle.calls.proofs.Rows.{in_first, in_second}
 use Rattle.calls.specs.Table.{fields_of, word_rows, octet_rows, block_rows, inode_rows, entry_rows, record_rows, root_rows, page_rows, low_rows, high_rows}
-use borrow.Author.Rules.{rules}
 use Rattle.calls.proofs.fields_of.Goals as goal
 
 pub returns-then-call-lt20 : goal.returns-then-call-lt20

@@ -2,7 +2,6 @@ use mathlib.Core.Path.{refl}
 use Rattle.calls.proofs.Rows.{in_first, in_second}
 use mathlib.Core.List.{◌++◌}
 use Rattle.calls.specs.Table.{inode_rows, entry_rows, record_rows, root_rows, page_rows}
-use borrow.Author.Rules.{rules}
 use Rattle.calls.proofs.high_fields.Goals as goal
 
 pub returns-then-call-lt24 : goal.returns-then-call-lt24

@@ -2,7 +2,6 @@ use mathlib.Core.Path.{refl}
 use Rattle.calls.proofs.Rows.{in_first, in_second}
 use mathlib.Core.List.{◌++◌}
 use Rattle.calls.specs.Table.{word_rows, octet_rows, block_rows}
-use borrow.Author.Rules.{rules}
 use Rattle.calls.proofs.low_fields.Goals as goal
 
 pub returns-then-call-lt6 : goal.returns-then-call-lt6

@@ -1,6 +1,5 @@
 use Rattle.calls.specs.Told.{at_most}
 use borrow.Author.Tests.{le-leb, lt-leb}
-use borrow.Author.Rules.{rules}
 use Rattle.calls.proofs.short.Goals as goal
 
 pub returns-then-value-le65535 : goal.returns-then-value-le65535

@@ -1,6 +1,5 @@
 use Rattle.calls.specs.Told.{at_most}
 use borrow.Author.Tests.{le-leb, lt-leb}
-use borrow.Author.Rules.{rules}
 use Rattle.calls.proofs.word.Goals as goal
 
 pub returns-then-value-le4294967295 : goal.returns-then-value-le4294967295

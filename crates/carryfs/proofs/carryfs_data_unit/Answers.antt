@@ -1,7 +1,6 @@
 use mathlib.Core.Path.{◌∙◌}
 use borrow.Author.Tests.{eq-eqb, ne_eqb}
 use Rattle.carryfs.proofs.Answers.{placed_as, unit_length}
-use borrow.Author.Rules.{rules}
 use Rattle.carryfs.proofs.carryfs_data_unit.Goals as goal
 
 pub returns-then-uuid-ne16 : goal.returns-then-uuid-ne16

@@ -1,7 +1,6 @@
 use mathlib.Core.Path.{◌∙◌, ap}
 use Rattle.carryfs.specs.Words.{check_words, group_words}
 use Rattle.carryfs.proofs.Answers.{group_length, placed_as}
-use borrow.Author.Rules.{rules}
 use Rattle.carryfs.proofs.carryfs_group.Goals as goal
 
 pub returns : goal.returns

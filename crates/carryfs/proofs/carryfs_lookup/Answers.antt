@@ -2,7 +2,6 @@ use mathlib.Core.Path.{◌∙◌, ap}
 use borrow.Author.Tests.{lt-leb, le-leb}
 use Rattle.carryfs.specs.Words.{floor_words}
 use Rattle.carryfs.proofs.Answers.{floor_length, placed_as}
-use borrow.Author.Rules.{rules}
 use Rattle.carryfs.proofs.carryfs_lookup.Goals as goal
 
 pub returns-then-out-lt4 : goal.returns-then-out-lt4

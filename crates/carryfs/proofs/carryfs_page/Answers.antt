@@ -1,7 +1,6 @@
 use mathlib.Core.Path.{◌∙◌}
 use Rattle.error.proofs.Tests.{is_of}
 use Rattle.carryfs.proofs.Answers.{placed_as, answer_length, asked_fits}
-use borrow.Author.Rules.{rules}
 use Rattle.carryfs.proofs.carryfs_page.Goals as goal
 
 pub returns-then-not-can_ask : goal.returns-then-not-can_ask

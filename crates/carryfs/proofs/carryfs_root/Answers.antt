@@ -1,7 +1,5 @@
 use mathlib.Core.Path.{◌∙◌}
-use native.Mathlib.Omega.{arith}
 use borrow.Author.Tests.{lt-leb, le-leb}
-use borrow.Author.Rules.{rules}
 use Rattle.carryfs.proofs.carryfs_root.Goals as goal
 
 pub returns-then-out-lt18 : goal.returns-then-out-lt18

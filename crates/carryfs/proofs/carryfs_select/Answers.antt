@@ -1,7 +1,6 @@
 use mathlib.Core.Path.{◌∙◌, ap}
 use Rattle.carryfs.specs.Words.{choice_words}
 use Rattle.carryfs.proofs.Answers.{choice_length, placed_as}
-use borrow.Author.Rules.{rules}
 use Rattle.carryfs.proofs.carryfs_select.Goals as goal
 
 pub returns : goal.returns

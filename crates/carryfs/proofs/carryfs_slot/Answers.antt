@@ -2,7 +2,6 @@ use Rattle.group.specs.Group.{checksum_slot}
 use mathlib.Core.Path.{◌∙◌, ap}
 use Rattle.carryfs.specs.Words.{slot_words}
 use Rattle.carryfs.proofs.Answers.{slot_length, placed_as}
-use borrow.Author.Rules.{rules}
 use Rattle.carryfs.proofs.carryfs_slot.Goals as goal
 
 pub returns : goal.returns

@@ -1,5 +1,4 @@
 use Rattle.carryfs.specs.Words.{page_words}
-use borrow.Author.Rules.{rules}
 use Rattle.carryfs.proofs.page_words.Goals as goal
 
 pub returns : goal.returns

@@ -1,6 +1,5 @@
 use mathlib.Core.Path.{◌∙◌}
 use borrow.Author.Tests.{lt-leb, le-leb}
-use borrow.Author.Rules.{rules}
 use Rattle.carryfs.proofs.place.Goals as goal
 
 pub returns-then-out-words : goal.returns-then-out-words

@@ -1,5 +1,4 @@
 use native.Mathlib.Omega.{arith}
-use borrow.Author.Rules.{rules}
 use lib.ListN.{length-append}
 use Rattle.octets.proofs.Lay.{laid_then}
 use Rattle.carryfs.specs.Words.{root_text}

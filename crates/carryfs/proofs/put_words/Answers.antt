@@ -1,9 +1,7 @@
-use mathlib.Core.Path.{◌≡◌}
-use Prim.Native.Nat.{◌≤◌, ◌-◌}
-use lib.ListN.{length, length-set}
+use lib.ListN.{length-set}
 use borrow.Author.Rules.{rules}
 use Rattle.carryfs.proofs.Fill.{put_more, put_all}
-use lib.Seq.{paste, paste-zero}
+use lib.Seq.{paste-zero}
 use Rattle.carryfs.proofs.put_words.Goals as goal
 
 pub loop-i-init : goal.loop-i-init

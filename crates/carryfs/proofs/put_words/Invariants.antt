@@ -1,9 +1,7 @@
 use mathlib.Core.Path.{◌≡◌}
 use Prim.Native.Nat.{◌≤◌, ◌-◌}
-use lib.ListN.{length, length-set}
-use borrow.Author.Rules.{rules}
-use Rattle.carryfs.proofs.Fill.{put_more, put_all}
-use lib.Seq.{paste, paste-zero}
+use lib.ListN.{length}
+use lib.Seq.{paste}
 use Rattle.carryfs.proofs.put_words.Given as goal
 
 abbrev pub invariant-loop-i : goal.invariant-loop-i

@@ -1,5 +1,4 @@
 use mathlib.Core.Path.{◌∙◌, ap}
-use borrow.Author.Rules.{rules}
 use Rattle.root.specs.Select.{supported_root}
 use Rattle.carryfs.proofs.slot_root.Goals as goal
 

@@ -1,4 +1,3 @@
-use borrow.Author.Rules.{rules}
 use Rattle.carryfs.proofs.slot_words.Goals as goal
 
 pub returns-in-Hole : goal.returns-in-Hole

@@ -1,5 +1,4 @@
 use Rattle.carryfs.specs.Words.{step_words}
-use borrow.Author.Rules.{rules}
 use Rattle.carryfs.proofs.step_words.Goals as goal
 
 pub returns : goal.returns

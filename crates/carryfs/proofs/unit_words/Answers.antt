@@ -1,4 +1,3 @@
-use borrow.Author.Rules.{rules}
 use Rattle.carryfs.specs.Words.{unit_words}
 use Rattle.carryfs.proofs.unit_words.Goals as goal
 

@@ -1,4 +1,3 @@
-use borrow.Author.Rules.{rules}
 use Rattle.hand.proofs.first_numbers.Goals as goal
 
 pub returns : goal.returns

@@ -9,7 +9,6 @@ use Rattle.page.specs.declared.Page.{Page}
 use Rattle.page.specs.declared.view.PageView.{PageView}
 use Rattle.hand.specs.Hand.{lookup_first, scratch_in, page_numbers}
 use Rattle.hand.specs.declared.First.{First}
-use Rattle.hand.specs.declared.Handed.{Handed}
 use Rattle.hand.proofs.hand_out.Goals as goal
 
 all_handed : (page : Bor (List ℕ)) (answer : Page) (d : PageView) (key : List ℕ) (entries : ℕ) (z : First)

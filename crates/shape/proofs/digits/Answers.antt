@@ -1,8 +1,7 @@
-use Prim.Native.Nat.{ℕ, ◌≤◌, ◌-◌, ◌+◌}
+use Prim.Native.Nat.{ℕ, ◌-◌, ◌+◌}
 use mathlib.Core.Path.{◌≡◌, ◌∙◌}
 use native.Mathlib.Omega.{arith}
 use borrow.Author.Rules.{rules}
-use Rattle.shape.specs.Inside.{digits_in}
 use Rattle.shape.proofs.Reading.{digits_none, digits_more, digits_all}
 use Rattle.shape.proofs.digits.Goals as goal
 

@@ -1,9 +1,6 @@
-use Prim.Native.Nat.{ℕ, ◌≤◌, ◌-◌, ◌+◌}
-use mathlib.Core.Path.{◌≡◌, ◌∙◌}
-use native.Mathlib.Omega.{arith}
-use borrow.Author.Rules.{rules}
+use Prim.Native.Nat.{◌≤◌, ◌-◌, ◌+◌}
+use mathlib.Core.Path.{◌≡◌}
 use Rattle.shape.specs.Inside.{digits_in}
-use Rattle.shape.proofs.Reading.{digits_none, digits_more, digits_all}
 use Rattle.shape.proofs.digits.Given as goal
 
 abbrev pub invariant-loop-i : goal.invariant-loop-i

@@ -1,4 +1,3 @@
-use borrow.Author.Rules.{rules}
 use Rattle.shape.proofs.is_allowed.Goals as goal
 
 pub returns : goal.returns

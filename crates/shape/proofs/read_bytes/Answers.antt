@@ -1,5 +1,4 @@
 use Rattle.shape.proofs.Reading.{over_first, over_second, inside}
-use borrow.Author.Rules.{rules}
 use Rattle.shape.proofs.read_bytes.Goals as goal
 
 pub returns-then-input-length : goal.returns-then-input-length

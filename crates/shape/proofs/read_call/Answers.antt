@@ -2,7 +2,6 @@ use mathlib.Core.Path.{◌∙◌}
 use borrow.Author.Tests.{eq-eqb, ne_eqb}
 use Rattle.shape.specs.Calls.{call_front}
 use Rattle.shape.proofs.Reading.{some_known, roots_known, none_known}
-use borrow.Author.Rules.{rules}
 use Rattle.shape.proofs.read_call.Goals as goal
 
 pub returns-then-input-eq0 : goal.returns-then-input-eq0

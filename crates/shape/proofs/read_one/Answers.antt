@@ -1,7 +1,6 @@
 use Rattle.shape.proofs.Reading.{alone}
 use borrow.Author.Tests.{eq-eqb, ne_eqb, lt-ltb, le-ltb}
 use Rattle.shape.specs.Call.{reads}
-use borrow.Author.Rules.{rules}
 use Rattle.shape.proofs.read_one.Goals as goal
 
 pub returns-then-digit-eq0 : goal.returns-then-digit-eq0

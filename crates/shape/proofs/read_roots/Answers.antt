@@ -1,6 +1,5 @@
 use Rattle.shape.specs.Calls.{items_in, calls}
 use Rattle.shape.specs.Inside.{items_of_all, items_of, items_from, least_of, most_of}
-use borrow.Author.Rules.{rules}
 use Rattle.shape.proofs.read_roots.Goals as goal
 
 pub returns : goal.returns

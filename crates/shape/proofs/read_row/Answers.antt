@@ -1,8 +1,6 @@
-use Prim.Native.Nat.{◌≤◌, ◌-◌}
-use mathlib.Core.Path.{◌≡◌, refl, sym, ◌∙◌}
+use mathlib.Core.Path.{refl, sym, ◌∙◌}
 use borrow.Author.Rules.{rules}
-use Rattle.shape.specs.Call.{reads}
-use Rattle.shape.specs.Inside.{items_from, items_of}
+use Rattle.shape.specs.Inside.{items_of}
 use Rattle.shape.proofs.Reading.{row_on, row_off, row_end}
 use Rattle.shape.proofs.read_row.Goals as goal
 

@@ -1,9 +1,7 @@
 use Prim.Native.Nat.{◌≤◌, ◌-◌}
-use mathlib.Core.Path.{◌≡◌, refl, sym, ◌∙◌}
-use borrow.Author.Rules.{rules}
+use mathlib.Core.Path.{◌≡◌}
 use Rattle.shape.specs.Call.{reads}
 use Rattle.shape.specs.Inside.{items_from, items_of}
-use Rattle.shape.proofs.Reading.{row_on, row_off, row_end}
 use Rattle.shape.proofs.read_row.Given as goal
 
 abbrev pub invariant-loop-i : goal.invariant-loop-i

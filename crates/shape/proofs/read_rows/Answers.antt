@@ -1,9 +1,5 @@
-use Prim.Native.Nat.{◌≤◌, ◌-◌}
-use mathlib.Core.Path.{◌≡◌, refl, sym, ◌∙◌}
-use lib.ListN.{length, drop}
+use mathlib.Core.Path.{refl, sym, ◌∙◌}
 use borrow.Author.Rules.{rules}
-use Rattle.shape.specs.Call.{reads}
-use Rattle.shape.specs.Inside.{items_of_all}
 use Rattle.shape.proofs.Reading.{rows_on, rows_off, rows_end}
 use Rattle.shape.proofs.read_rows.Goals as goal
 

@@ -1,10 +1,8 @@
 use Prim.Native.Nat.{◌≤◌, ◌-◌}
-use mathlib.Core.Path.{◌≡◌, refl, sym, ◌∙◌}
+use mathlib.Core.Path.{◌≡◌}
 use lib.ListN.{length, drop}
-use borrow.Author.Rules.{rules}
 use Rattle.shape.specs.Call.{reads}
 use Rattle.shape.specs.Inside.{items_of_all}
-use Rattle.shape.proofs.Reading.{rows_on, rows_off, rows_end}
 use Rattle.shape.proofs.read_rows.Given as goal
 
 abbrev pub invariant-loop-i : goal.invariant-loop-i

@@ -1,8 +1,6 @@
-use borrow.Author.Tests.{not-true, not-false}
 use Rattle.shape.proofs.Reading.{stops}
 use Rattle.shape.specs.Call.{read_string}
 use mathlib.Core.Path.{sym}
-use borrow.Author.Rules.{rules}
 use Rattle.shape.proofs.read_string.Goals as goal
 
 pub returns-in_default : goal.returns-in_default

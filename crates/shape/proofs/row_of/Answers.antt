@@ -1,5 +1,4 @@
 use Rattle.shape.proofs.Table.{no_row}
-use borrow.Author.Rules.{rules}
 use Rattle.shape.proofs.row_of.Goals as goal
 
 pub returns-then-call-lt44 : goal.returns-then-call-lt44

@@ -1,4 +1,3 @@
-use borrow.Author.Rules.{rules}
 use Rattle.shape.specs.Calls.{items_in, calls, strings_at}
 use Rattle.shape.proofs.strings_at.Goals as goal
 

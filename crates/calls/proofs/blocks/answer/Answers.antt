@@ -1,7 +1,6 @@
 use Rattle.calls.specs.Table.{block_rows}
 use Rattle.calls.specs.Told.{fields_in}
 use borrow.Author.Tests.{ne_eqb}
-use borrow.Author.Rules.{rules}
 use Rattle.calls.proofs.blocks.answer.Goals as goal
 
 pub returns-in-12 : goal.returns-in-12

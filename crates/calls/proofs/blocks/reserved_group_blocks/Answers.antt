@@ -1,4 +1,3 @@
-use borrow.Author.Rules.{rules}
 use Rattle.calls.proofs.blocks.reserved_group_blocks.Goals as goal
 
 pub returns : goal.returns

@@ -1,7 +1,6 @@
 use borrow.Author.Tests.{ne_eqb}
 use Rattle.calls.specs.Told.{fields_in}
 use Rattle.calls.specs.Table.{root_rows}
-use borrow.Author.Rules.{rules}
 use Rattle.calls.proofs.choice.answer.Goals as goal
 
 pub returns-then-call-ne35 : goal.returns-then-call-ne35

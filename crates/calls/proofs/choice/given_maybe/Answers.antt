@@ -1,5 +1,4 @@
 use Rattle.calls.specs.Given.{given_maybe}
-use borrow.Author.Rules.{rules}
 use Rattle.calls.proofs.choice.given_maybe.Goals as goal
 
 pub returns : goal.returns

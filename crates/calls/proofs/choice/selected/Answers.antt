@@ -1,5 +1,4 @@
 use Rattle.calls.specs.Given.{selected_fields}
-use borrow.Author.Rules.{rules}
 use Rattle.calls.proofs.choice.selected.Goals as goal
 
 pub returns : goal.returns

@@ -1,5 +1,4 @@
 use Rattle.carryfs.specs.Words.{choice_words}
-use borrow.Author.Rules.{rules}
 use Rattle.calls.proofs.choice.selection.Goals as goal
 
 pub returns : goal.returns

@@ -1,4 +1,3 @@
-use borrow.Author.Rules.{rules}
 use Rattle.calls.proofs.choice.slot_root.Goals as goal
 
 pub returns : goal.returns

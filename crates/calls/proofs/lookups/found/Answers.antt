@@ -1,5 +1,4 @@
 use Rattle.carryfs.specs.Words.{floor_words}
-use borrow.Author.Rules.{rules}
 use Rattle.calls.proofs.lookups.found.Goals as goal
 
 pub returns : goal.returns

@@ -1,6 +1,5 @@
 use Rattle.calls.specs.Given.{hand_asked}
 use Rattle.calls.specs.Table.{page_asked}
-use borrow.Author.Rules.{rules}
 use Rattle.calls.proofs.lookups.handed_fields.Goals as goal
 
 pub returns : goal.returns

@@ -1,5 +1,4 @@
 use Rattle.calls.specs.Given.{handed_fields}
-use borrow.Author.Rules.{rules}
 use Rattle.calls.proofs.lookups.handed_numbers.Goals as goal
 
 pub returns : goal.returns

@@ -1,7 +1,6 @@
 use Rattle.calls.specs.Table.{octet_rows}
 use Rattle.calls.specs.Told.{fields_in}
 use borrow.Author.Tests.{ne_eqb}
-use borrow.Author.Rules.{rules}
 use Rattle.calls.proofs.octet.answer.Goals as goal
 
 pub returns-in-6 : goal.returns-in-6

@@ -1,5 +1,4 @@
 use Rattle.calls.specs.Table.{page_asked}
-use borrow.Author.Rules.{rules}
 use Rattle.calls.proofs.pages.decode_page.Goals as goal
 
 pub returns : goal.returns

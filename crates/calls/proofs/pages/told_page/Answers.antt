@@ -1,5 +1,4 @@
 use Rattle.carryfs.specs.Words.{page_words}
-use borrow.Author.Rules.{rules}
 use Rattle.calls.proofs.pages.told_page.Goals as goal
 
 pub returns : goal.returns

@@ -1,5 +1,4 @@
 use Rattle.calls.specs.Table.{walked_records}
-use borrow.Author.Rules.{rules}
 use Rattle.calls.proofs.pages.validate_records.Goals as goal
 
 pub returns : goal.returns

@@ -1,5 +1,4 @@
 use Rattle.calls.specs.Table.{view_asked}
-use borrow.Author.Rules.{rules}
 use Rattle.calls.proofs.pages.verified_page_view.Goals as goal
 
 pub returns : goal.returns

@@ -1,7 +1,6 @@
 use Rattle.calls.specs.Table.{entry_rows}
 use Rattle.calls.specs.Told.{fields_in}
 use borrow.Author.Tests.{ne_eqb}
-use borrow.Author.Rules.{rules}
 use Rattle.calls.proofs.records.answer_entry.Goals as goal
 
 pub returns-in-24 : goal.returns-in-24

@@ -1,7 +1,6 @@
 use Rattle.calls.specs.Table.{inode_rows}
 use Rattle.calls.specs.Told.{fields_in}
 use borrow.Author.Tests.{ne_eqb}
-use borrow.Author.Rules.{rules}
 use Rattle.calls.proofs.records.answer_inode.Goals as goal
 
 pub returns-in-20 : goal.returns-in-20

@@ -1,4 +1,3 @@
-use borrow.Author.Rules.{rules}
 use Rattle.calls.proofs.records.child.Goals as goal
 
 pub returns-in-Reference : goal.returns-in-Reference

@@ -1,5 +1,4 @@
 use Rattle.calls.proofs.Front.{front_length}
-use borrow.Author.Rules.{rules}
 use Rattle.calls.proofs.records.compact_group.Goals as goal
 
 pub returns : goal.returns

@@ -1,6 +1,5 @@
 use mir.Syntax.{w64}
 use mir.ValLaws.{to_z-of_z}
-use borrow.Author.Rules.{rules}
 use Rattle.calls.proofs.records.validate_timestamp_range.Goals as goal
 
 pub returns : goal.returns

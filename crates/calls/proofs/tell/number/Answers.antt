@@ -1,5 +1,4 @@
 use Rattle.carryfs.specs.Words.{unit_words}
-use borrow.Author.Rules.{rules}
 use Rattle.calls.proofs.tell.number.Goals as goal
 
 pub returns-in-Value : goal.returns-in-Value

@@ -1,4 +1,3 @@
-use borrow.Author.Rules.{rules}
 use Rattle.calls.proofs.words.data_unit_crc.Goals as goal
 
 pub returns : goal.returns
