@@ -40,5 +40,5 @@ unfoldable pub page_body_line : ℕ → List ℕ → List ℕ
 page_body_line number body = answered_line number (page_in body)
 
 -- tree kind 1 to 4; another is cut
-abbrev pub names_aTree : List ℕ → Bool
-names_aTree body = is_tree_kind_value (byte_at body 32)
+abbrev pub names_a_tree : List ℕ → Bool
+names_a_tree body = is_tree_kind_value (byte_at body 32)

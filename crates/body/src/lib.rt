@@ -3,7 +3,7 @@
 
 ghost use Rattle.std.specs.Prelude.{◌≡◌};
 ghost use Rattle.octets.specs.Bytes.{Laid};
-ghost use Rattle.body.specs.Body.{names_aTree, decoded_line, root_body_line, page_body_line};
+ghost use Rattle.body.specs.Body.{names_a_tree, decoded_line, root_body_line, page_body_line};
 
 use root::{Decoded, Root};
 
@@ -15,7 +15,7 @@ pub const PAGE_BODY_BYTES: usize = 4146;
 
 // Whether the body of a page names a tree; the program stops at one that doesn't.
 pub fn names_a_tree(body: &[u8]) -> bool
-    ensures { result ≡ names_aTree body.now }
+    ensures { result ≡ names_a_tree body.now }
 {
     let kind = octets::byte_at(body, 32);
     (1 <= kind) & (kind <= 4)

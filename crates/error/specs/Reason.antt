@@ -70,8 +70,8 @@ abbrev pub invalid_workspace_root : ℕ
 invalid_workspace_root = 17
 
 -- root tree references share a block
-abbrev pub root_tree_references_share_aBlock : ℕ
-root_tree_references_share_aBlock = 18
+abbrev pub root_tree_references_share_a_block : ℕ
+root_tree_references_share_a_block = 18
 
 -- root tree generation is newer than root
 abbrev pub root_tree_generation_is_newer_than_root : ℕ
@@ -478,8 +478,8 @@ abbrev pub invalid_retirement_block : ℕ
 invalid_retirement_block = 119
 
 -- internal value is not a tree reference
-abbrev pub internal_value_is_not_aTree_reference : ℕ
-internal_value_is_not_aTree_reference = 120
+abbrev pub internal_value_is_not_a_tree_reference : ℕ
+internal_value_is_not_a_tree_reference = 120
 
 -- internal tree reference
 abbrev pub internal_tree_reference : ℕ
@@ -526,8 +526,8 @@ abbrev pub leaf_data_block_total_overflow : ℕ
 leaf_data_block_total_overflow = 131
 
 -- internal children share a block
-abbrev pub internal_children_share_aBlock : ℕ
-internal_children_share_aBlock = 132
+abbrev pub internal_children_share_a_block : ℕ
+internal_children_share_a_block = 132
 
 -- payload has unconsumed bytes
 abbrev pub payload_has_unconsumed_bytes : ℕ

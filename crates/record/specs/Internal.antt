@@ -68,7 +68,7 @@ child_demands reference kind blocks page_generation mode =
 abbrev pub internal_demands : TreeKind → List ℕ → List ℕ → ℕ → ℕ → Validation → List Demand
 internal_demands kind key value blocks page_generation mode =
     passing (internal_key kind key blocks page_generation mode)
-    ∷ eqb (length value) 16 otherwise violation_of mode reason.internal_value_is_not_aTree_reference
+    ∷ eqb (length value) 16 otherwise violation_of mode reason.internal_value_is_not_a_tree_reference
     ∷ child_demands (child_ref value) kind blocks page_generation mode
 
 -- 01, "Return classes": the first that fails answers; else the child's reference

@@ -64,7 +64,7 @@ are_up_to a b c limit = leb a limit && leb b limit && leb c limit
 -- `validate_root_fields`, READING-RULES 6.2: the three trees together: three distinct blocks, none newer than the root
 abbrev pub trees_demands : TreeRef → TreeRef → TreeRef → ℕ → Validation → List Demand
 trees_demands catalog allocation cleanup generation mode =
-    are_apart catalog.block allocation.block cleanup.block otherwise violation_of mode reason.root_tree_references_share_aBlock
+    are_apart catalog.block allocation.block cleanup.block otherwise violation_of mode reason.root_tree_references_share_a_block
     ∷ are_up_to catalog.generation allocation.generation cleanup.generation generation otherwise violation_of mode reason.root_tree_generation_is_newer_than_root
     ∷ []
 

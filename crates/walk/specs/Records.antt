@@ -61,7 +61,7 @@ abbrev pub join_demands : Bool → ℕ → List ℕ → ℕ → Validation → L
 join_demands leaf total seen n mode =
     cond leaf
     (sum_fits total n otherwise violation_of mode reason.leaf_data_block_total_overflow ∷ [])
-    (not (is_one_of n seen) otherwise violation_of mode reason.internal_children_share_aBlock ∷ [])
+    (not (is_one_of n seen) otherwise violation_of mode reason.internal_children_share_a_block ∷ [])
 
 -- this test as a check
 unfoldable pub join_check : Bool → ℕ → List ℕ → ℕ → Validation → Check
