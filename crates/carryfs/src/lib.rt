@@ -173,7 +173,7 @@ pub fn carryfs_lookup(
     place(&words, out)
 }
 
-// A root's answer as numbers, in the order in which the root holds them. For carryfs_root and for the program probe.
+// A root's answer as numbers, in the order in which the root holds them. For carryfs_root and the crate lines.
 pub fn root_words(decoded: Decoded) -> [u64; 18]
     ensures { result ≡ root_words decoded }
 {

@@ -12,11 +12,11 @@ use Rattle.lookup.proofs.next_record.Goals as goal
 use Rattle.lookup.proofs.next_record.Goals.{In-Record}
 
 -- the record at the start of the part, as the match has it, and that it lies in the part
-is-record : (c : In-Record) → split_record c.args.part.now ≡ Record c.in-Record.key_len c.in-Record.value_len
-is-record c = sym c.split_record.ensures ∙ c.in-Record.is
+record_is_whole : (c : In-Record) → split_record c.args.part.now ≡ Record c.in-Record.key_len c.in-Record.value_len
+record_is_whole c = sym c.split_record.ensures ∙ c.in-Record.is
 
 fits : (c : In-Record) → 4 + c.in-Record.key_len + c.in-Record.value_len ≤ length c.args.part.now
-fits c = split_fits c.args.part.now c.in-Record.key_len c.in-Record.value_len (is-record c)
+fits c = split_fits c.args.part.now c.in-Record.key_len c.in-Record.value_len (record_is_whole c)
 
 pub returns-then-remaining-eq0 : goal.returns-then-remaining-eq0
 unfolding next_record
@@ -30,7 +30,7 @@ overflow_add-result c = omega (arith, fits c)
 
 pub returns-in-Record : goal.returns-in-Record
 unfolding next_record
-returns-in-Record c = rw (lt-ltb 0 c.args.remaining (omega (arith, c.if-remaining-eq0.false)), is-record c)
+returns-in-Record c = rw (lt-ltb 0 c.args.remaining (omega (arith, c.if-remaining-eq0.false)), record_is_whole c)
 
 pub returns-in-Broken : goal.returns-in-Broken
 unfolding next_record
