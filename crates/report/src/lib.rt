@@ -4,8 +4,8 @@
 
 ghost use Rattle.std.specs.Prelude.{◌≡◌, [], ◌∷◌, ◌+◌, ◌%◌, ◌≤◌, ◌<◌, length, drop};
 ghost use Rattle.octets.specs.Bytes.{Laid};
-ghost use Rattle.report.specs.Text.{decimal as Text·decimal, number_field, number_fields, hex_digit, hex_byte, hex_entry, hex_field, entries_field};
-ghost use Rattle.report.specs.Line.{head_line, answer as Line·answer, label_field, root_fields, page_fields, body_line, cut_line, end_line};
+ghost use Rattle.report.specs.Text.{decimal, number_field, number_fields, hex_digit, hex_byte, hex_entry, hex_field, entries_field};
+ghost use Rattle.report.specs.Line.{head_line, answer, label_field, root_fields, page_fields, body_line, cut_line, end_line};
 
 pub fn put_byte(out: &mut [u8], at: usize, byte: u8) -> usize
     ensures { Laid out.old at (byte ∷ []) out.new result }
@@ -26,7 +26,7 @@ fn digit(n: u64) -> u8
 // Puts a number's digits at the end of the buffer and returns where they start.
 fn spell(n: u64, text: &mut [u8]) -> usize
     requires { length text.old ≡ 20 }
-    ensures { (result ≤ 20) × (drop result text.new ≡ Text·decimal n) }
+    ensures { (result ≤ 20) × (drop result text.new ≡ decimal n) }
 {
     text[19] = digit(n);
     let mut i = 19;
@@ -43,7 +43,7 @@ fn spell(n: u64, text: &mut [u8]) -> usize
 }
 
 pub fn decimal(out: &mut [u8], at: usize, n: u64) -> usize
-    ensures { Laid out.old at (Text·decimal n) out.new result }
+    ensures { Laid out.old at (decimal n) out.new result }
 {
     let mut text = [0u8; 20];
     let start = spell(n, &mut text);
@@ -120,7 +120,7 @@ pub fn head_line(out: &mut [u8], at: usize) -> usize
 }
 
 fn answer(out: &mut [u8], at: usize, number: u64, class: u16, reason: u16) -> usize
-    ensures { Laid out.old at (Line·answer number class reason) out.new result }
+    ensures { Laid out.old at (answer number class reason) out.new result }
 {
     let behind = decimal(out, at, number);
     let classed = number_field(out, behind, class as u64);
