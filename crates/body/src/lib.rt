@@ -1,11 +1,15 @@
 // The bodies that the program readback reads, and the line that each gives. Document 01, "The program readback".
 #![tactic(auto)]
 
-ghost use Rattle.std.specs.Prelude.{◌≡◌};
+ghost use Rattle.std.specs.Prelude.{◌≡◌, []};
+ghost use Rattle.error.specs.Answer.{class_of, reason_of};
 ghost use Rattle.octets.specs.Bytes.{Laid};
-ghost use Rattle.body.specs.Body.{names_a_tree, decoded_line, root_body_line, page_body_line};
+ghost use Rattle.report.specs.Line.{body_line};
+ghost use Rattle.body.specs.Body.{names_a_tree, decoded_line, root_body_line, answered_line, page_body_line};
 
-use root::{Decoded, Root};
+use error::Error;
+use page::Page;
+use root::Root;
 
 // Slot u64, blocks u64 and the block.
 pub const ROOT_BODY_BYTES: usize = 4112;
@@ -17,30 +21,34 @@ pub const PAGE_BODY_BYTES: usize = 4146;
 pub fn names_a_tree(body: &[u8]) -> bool
     ensures { result ≡ names_a_tree body.now }
 {
-    let kind = octets::byte_at(body, 32);
-    (1 <= kind) & (kind <= 4)
+    (1..=4).contains(&octets::byte_at(body, 32))
 }
 
-// The line of a root and its answer.
-fn decoded_line(out: &mut [u8], at: usize, number: u64, decoded: Decoded) -> usize
+// The line of a refusal.
+fn refusal(out: &mut [u8], at: usize, number: u64, e: Error) -> usize
+    ensures { Laid out.old at (body_line number (class_of e) (reason_of e) []) out.new result }
+{
+    report::refused_line(out, at, number, error::class_of(e), error::reason_of(e))
+}
+
+// The line of a root's answer.
+fn decoded_line(out: &mut [u8], at: usize, number: u64, decoded: Result<Root, Error>) -> usize
     ensures { Laid out.old at (decoded_line number decoded) out.new result }
 {
-    let answer = decoded.answer;
-    let root = decoded.root;
-    let label = root.label;
-    let bytes = label.bytes;
-    report::root_line(
-        out,
-        at,
-        number,
-        error::check_class(answer),
-        error::check_reason(answer),
-        root.generation,
-        octets::span(&bytes, 0, label.len as usize),
-    )
+    match decoded {
+        Ok(root) => {
+            let label = match &root.label {
+                Some(label) => &label.bytes[..label.len as usize],
+                None => &[],
+            };
+            report::root_line(out, at, number, root.generation, label)
+        }
+        Err(e) => refusal(out, at, number, e),
+    }
 }
 
 // Lays the line of a root's body into `out`.
+#[tactic(auto, unfolding(crate::specs::Body::root_body_line))]
 pub fn root_body_line(out: &mut [u8], at: usize, number: u64, body: &[u8]) -> usize
     ensures { Laid out.old at (root_body_line number body.now) out.new result }
 {
@@ -49,12 +57,23 @@ pub fn root_body_line(out: &mut [u8], at: usize, number: u64, body: &[u8]) -> us
     decoded_line(out, at, number, decoded)
 }
 
+// The line of a page's answer.
+fn answered_line(out: &mut [u8], at: usize, number: u64, answer: Result<Page, Error>) -> usize
+    ensures { Laid out.old at (answered_line number answer) out.new result }
+{
+    match answer {
+        Ok(p) => report::page_line(out, at, number, p.level, p.data_blocks, p.count as u64),
+        Err(e) => refusal(out, at, number, e),
+    }
+}
+
 // Lays the line of a page's body into `out`.
+#[tactic(auto, unfolding(crate::specs::Body::page_body_line))]
 pub fn page_body_line(out: &mut [u8], at: usize, number: u64, body: &[u8]) -> usize
     ensures { Laid out.old at (page_body_line number body.now) out.new result }
 {
-    let uuid = octets::copy16(octets::tail(body, 16));
-    let p = page::page_answer(
+    let uuid = octets::padded::<16>(octets::tail(body, 16));
+    let answer = page::page_answer(
         octets::tail(body, 50),
         volume::ref_at(body, 0),
         &uuid,
@@ -63,14 +82,5 @@ pub fn page_body_line(out: &mut [u8], at: usize, number: u64, body: &[u8]) -> us
         page::expected_of(octets::byte_at(body, 41)),
         octets::u64_at(body, 42),
     );
-    report::page_line(
-        out,
-        at,
-        number,
-        p.class,
-        p.reason,
-        p.level,
-        p.data_blocks,
-        p.count as u64,
-    )
+    answered_line(out, at, number, answer)
 }

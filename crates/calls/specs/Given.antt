@@ -1,18 +1,19 @@
 -- A call's bytes (docs/PROBE.md): its number, then its numbers, eight bytes each, then its strings, each behind its length of four bytes; integers little-endian. And the numbers that calls 41 and 43 tell.
-use Rattle.std.specs.Prelude.{ℕ, ◌+◌, ◌*◌, List, [], ◌∷◌, eqb, drop}
-use Rattle.error.specs.Answer.{check_class, check_reason}
+use Rattle.std.specs.Prelude.{ℕ, ◌+◌, ◌*◌, cond, List, [], ◌∷◌, eqb, drop, replicate, Option, Some, None, Result, Ok, Err}
+use Rattle.error.specs.declared.Error.{Error}
+use Rattle.error.specs.Answer.{class_of, reason_of}
 use Rattle.octets.specs.Bytes.{padded_to}
 use Rattle.octets.specs.Number.{u64_at}
 use Rattle.volume.specs.References.{ref_at, tree_kind_of}
 use Rattle.page.specs.Header.{expected_of}
 use Rattle.root.specs.declared.Label.{Label}
 use Rattle.root.specs.declared.Root.{Root}
-use Rattle.root.specs.declared.MaybeRoot.{MaybeRoot}
 use Rattle.root.specs.declared.Selected.{Selected}
 use Rattle.root.specs.Select.{select_root}
+use Rattle.hand.specs.declared.Given.{Given}
+use Rattle.hand.specs.declared.First.{First}
 use Rattle.hand.specs.declared.Handed.{Handed}
 use Rattle.hand.specs.Hand.{hand_out}
-use Rattle.carryfs.specs.Words.{flag}
 use Rattle.calls.specs.declared.Numbers.{Numbers}
 use Rattle.calls.specs.Told.{at_most, reference_to}
 
@@ -38,11 +39,10 @@ numbers_in input = record {
 abbrev pub given_label : List ℕ → List ℕ → Label
 given_label stored text = record { len = at_most 255 (u64_at stored 16); bytes = padded_to 255 text }
 
--- the root: has label (number 1), generation and blocks (3 and 4), catalog, allocation, cleanup (two each), next object, free blocks, next job, workspace (two), cursor
+-- the root: label where number 1 is 1, generation and blocks (3 and 4), catalog, allocation, cleanup (two each), next object, free blocks, next job, workspace (two), cursor
 unfoldable pub given_root : List ℕ → List ℕ → List ℕ → Root
 given_root stored uuid text = record {
-  has_label = eqb (u64_at stored 8) 1;
-  label = given_label stored text;
+  label = cond (eqb (u64_at stored 8) 1) (Some (given_label stored text)) None;
   uuid = padded_to 16 uuid;
   generation = u64_at stored 24;
   blocks = u64_at stored 32;
@@ -57,12 +57,13 @@ given_root stored uuid text = record {
 }
 
 -- the root, present where number 0 is 1
-unfoldable pub given_maybe : List ℕ → List ℕ → List ℕ → MaybeRoot
-given_maybe stored uuid text = record { present = eqb (u64_at stored 0) 1; root = given_root stored uuid text }
+unfoldable pub given_maybe : List ℕ → List ℕ → List ℕ → Option Root
+given_maybe stored uuid text = cond (eqb (u64_at stored 0) 1) (Some (given_root stored uuid text)) None
 
 -- class, reason, 1 for the first or 2 for the second
-abbrev pub which_fields : Selected → List ℕ
-which_fields s = check_class s.answer ∷ check_reason s.answer ∷ s.which ∷ []
+abbrev pub which_fields : Result Selected Error → List ℕ
+which_fields (Ok s) = 0 ∷ 0 ∷ s.which ∷ []
+which_fields (Err e) = class_of e ∷ reason_of e ∷ 0 ∷ []
 
 -- the numbers of the roots start at bytes 1 and 137; behind them, from byte 273 on, stand UUID and label of the first, each behind its length (at 277 and 297), then those of the second (at 556 and 576)
 unfoldable pub selected_fields : List ℕ → List ℕ
@@ -72,13 +73,21 @@ selected_fields input =
 -- ---- call 43: a lookup on a page's view
 
 -- the page that the call asks for, the lookup on its view, and the first record
-unfoldable pub hand_asked : Numbers → List ℕ → List ℕ → List ℕ → ℕ → Handed
+unfoldable pub hand_asked : Numbers → List ℕ → List ℕ → List ℕ → ℕ → Result Handed Error
 hand_asked n uuid page key entries =
     hand_out (reference_to n.a n.b) (padded_to 16 uuid) (tree_kind_of n.c) n.d (expected_of (at_most 255 n.e)) n.f page key entries
 
--- class, reason, level, total and count of the view; whether a record is found, its index, how many there are from it on; whether one is given, its key's length and checksum, its value's, how many are left
-unfoldable pub handed_fields : Handed → List ℕ
-handed_fields h =
-    h.class ∷ h.reason ∷ h.level ∷ h.data_blocks ∷ h.count
-    ∷ flag h.first.found ∷ h.first.index ∷ h.first.remaining
-    ∷ flag h.first.given ∷ h.first.key_len ∷ h.first.key_sum ∷ h.first.value_len ∷ h.first.value_sum ∷ h.first.left ∷ []
+-- of so many records from the found one on: whether one is given, its key's length and checksum, its value's, how many are left after it; without one as many as before
+abbrev pub given_fields : ℕ → Option Given → List ℕ
+given_fields left (Some g) = 1 ∷ g.key_len ∷ g.key_sum ∷ g.value_len ∷ g.value_sum ∷ g.left ∷ []
+given_fields left None = 0 ∷ 0 ∷ 0 ∷ 0 ∷ 0 ∷ left ∷ []
+
+-- whether a record is found, its index, how many there are from it on, and of the first of them as above
+abbrev pub first_fields : Option First → List ℕ
+first_fields (Some f) = 1 ∷ f.index ∷ f.remaining ∷ given_fields f.remaining f.given
+first_fields None = replicate 9 0
+
+-- class, reason, level, total and count of the view, and what the lookup finds
+unfoldable pub handed_fields : Result Handed Error → List ℕ
+handed_fields (Ok h) = 0 ∷ 0 ∷ h.level ∷ h.data_blocks ∷ h.count ∷ first_fields h.first
+handed_fields (Err e) = class_of e ∷ reason_of e ∷ replicate 12 0

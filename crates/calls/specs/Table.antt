@@ -1,6 +1,7 @@
 -- The calls of docs/PROBE.md whose fields are a few numbers, in the order of their numbers. n is a call's numbers, a and b its strings.
-use Rattle.std.specs.Prelude.{ℕ, List, [], ◌∷◌, ◌++◌, replicate}
-use Rattle.error.specs.declared.Number.{Number}
+use Rattle.std.specs.Prelude.{ℕ, List, [], ◌∷◌, ◌++◌, replicate, Result}
+use Rattle.error.specs.declared.Error.{Error}
+use Rattle.error.specs.Answer.{Number}
 use Rattle.octets.specs.Bytes.{all_zero, padded_to}
 use Rattle.octets.specs.Order.{order}
 use Rattle.octets.specs.Reads.{read_of}
@@ -105,12 +106,12 @@ root_rows n a b =
     ∷ []
 
 -- the page that a call asks for
-unfoldable pub page_asked : Numbers → List ℕ → List ℕ → Page
+unfoldable pub page_asked : Numbers → List ℕ → List ℕ → Result Page Error
 page_asked n uuid page =
     decode_page (reference_to n.a n.b) (padded_to 16 uuid) (tree_kind_of n.c) n.d (expected_of (at_most 255 n.e)) n.f page
 
 -- the same by its identity alone
-unfoldable pub view_asked : Numbers → List ℕ → List ℕ → Page
+unfoldable pub view_asked : Numbers → List ℕ → List ℕ → Result Page Error
 view_asked n uuid page =
     verified_page_view (reference_to n.a n.b) (padded_to 16 uuid) (tree_kind_of n.c) n.d (expected_of (at_most 255 n.e)) page
 

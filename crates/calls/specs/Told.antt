@@ -1,19 +1,17 @@
 -- How a call of probe is answered (docs/PROBE.md): its numbers as the functions take them, and its answer as fields.
-use Rattle.std.specs.Prelude.{ℕ, ◌-◌, cond, List, [], ◌∷◌, eqb, leb, length}
+use Rattle.std.specs.Prelude.{ℕ, ◌-◌, cond, List, [], ◌∷◌, eqb, leb, length, replicate, Option, Some, None, Result, Ok, Err}
 use Rattle.error.specs.declared.Error.{Error}
 use Rattle.error.specs.declared.Validation.{Validation}
 use Rattle.error.specs.declared.Validation.TheVariants.{Input, Disk}
 use Rattle.error.specs.Answer.{class_of, reason_of}
-use Rattle.octets.specs.declared.Order.{Order}
-use Rattle.octets.specs.declared.Order.TheVariants.{Less, Equal, Greater}
+use Rattle.std.specs.declared.cmp.Ordering.{Ordering}
+use Rattle.std.specs.declared.cmp.Ordering.TheVariants.{Less, Equal, Greater}
 use Rattle.octets.specs.Bytes.{padded_to}
 use Rattle.volume.specs.declared.GroupBlocks.{GroupBlocks}
 use Rattle.volume.specs.declared.TreeRef.{TreeRef}
 use Rattle.group.specs.Group.{compact_bytes}
-use Rattle.record.specs.declared.Child.{Child}
 use Rattle.lookup.specs.declared.Step.{Step}
 use Rattle.page.specs.declared.Page.{Page}
-use Rattle.carryfs.specs.Words.{flag}
 use Rattle.calls.specs.declared.Fields.{Fields}
 
 -- ---- numbers
@@ -37,7 +35,7 @@ abbrev pub told : List ℕ → Fields
 told fields = record { count = length fields; values = padded_to 7 fields }
 
 -- the bytewise order: 0 a before b, 1 equal, 2 a after b
-abbrev pub order_number : Order → ℕ
+abbrev pub order_number : Ordering → ℕ
 order_number Less = 0
 order_number Equal = 1
 order_number Greater = 2
@@ -47,9 +45,9 @@ abbrev pub refused_fields : Error → List ℕ
 refused_fields e = class_of e ∷ reason_of e ∷ 0 ∷ 0 ∷ []
 
 -- class, reason, block and generation of the page that a record names
-abbrev pub child_fields : Child → List ℕ
-child_fields (Child.Reference r) = 0 ∷ 0 ∷ r.block ∷ r.generation ∷ []
-child_fields (Child.Refused e) = refused_fields e
+abbrev pub child_fields : Result TreeRef Error → List ℕ
+child_fields (Ok r) = 0 ∷ 0 ∷ r.block ∷ r.generation ∷ []
+child_fields (Err e) = refused_fields e
 
 -- a group's reserved blocks at its low end and at its high end, each as start and end
 abbrev pub group_fields : GroupBlocks → List ℕ
@@ -60,13 +58,14 @@ abbrev pub front_fields : List ℕ → List ℕ
 front_fields group = compact_bytes group ∷ []
 
 -- whether there is a record, its key's offset and length, its value's, the offset of the rest
-abbrev pub step_fields : Step → List ℕ
-step_fields s =
-    flag s.found ∷ s.key_start ∷ (s.key_end - s.key_start) ∷ s.key_end ∷ (s.value_end - s.key_end) ∷ s.value_end ∷ []
+abbrev pub step_fields : Option Step → List ℕ
+step_fields (Some s) = 1 ∷ s.key_start ∷ (s.key_end - s.key_start) ∷ s.key_end ∷ (s.value_end - s.key_end) ∷ s.value_end ∷ []
+step_fields None = replicate 6 0
 
 -- class, reason, level, count, the payload's offset and length
-abbrev pub draft_fields : Page → List ℕ
-draft_fields p = p.class ∷ p.reason ∷ p.level ∷ p.count ∷ p.start ∷ (p.end - p.start) ∷ []
+abbrev pub draft_fields : Result Page Error → List ℕ
+draft_fields (Ok p) = 0 ∷ 0 ∷ p.level ∷ p.count ∷ p.start ∷ (p.end - p.start) ∷ []
+draft_fields (Err e) = class_of e ∷ reason_of e ∷ replicate 4 0
 
 -- ---- the table
 

@@ -4,16 +4,17 @@ ghost use Rattle.volume.specs.Groups.{reserved_group_blocks};
 ghost use Rattle.calls.specs.Told.{told, fields_in, group_fields};
 ghost use Rattle.calls.specs.Table.{block_rows};
 
-use crate::tell::{bit, check, four, none, number};
+use crate::tell::{bit, check, number, told};
 use crate::{Fields, Numbers, mode, reference};
 
 fn reserved_group_blocks(group: u64, blocks: u64) -> Fields
     ensures { result ≡ told (group_fields (reserved_group_blocks group blocks)) }
 {
     let r = volume::reserved_group_blocks(group, blocks);
-    four(r.low_start, r.low_end, r.high_start, r.high_end)
+    told([r.low_start, r.low_end, r.high_start, r.high_end])
 }
 
+#[tactic(auto, unfolding(crate::specs::Told::fields_in, crate::specs::Table::block_rows))]
 pub(crate) fn answer(call: u8, n: Numbers) -> Fields
     ensures { result ≡ told (fields_in call (block_rows n)) }
 {
@@ -31,6 +32,6 @@ pub(crate) fn answer(call: u8, n: Numbers) -> Fields
             mode(n.e),
         )),
         19 => check(volume::validate_root_slot(n.a, n.b, mode(n.c))),
-        _ => none(),
+        _ => told([]),
     }
 }

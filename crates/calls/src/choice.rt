@@ -1,64 +1,48 @@
 // Calls 35 and 41: the choice between two slots' blocks, and between two made-up roots.
 ghost use Rattle.std.specs.Prelude.{◌≡◌};
-ghost use Rattle.carryfs.specs.Words.{slot_root, choice_words};
 ghost use Rattle.calls.specs.Told.{told, fields_in};
 ghost use Rattle.calls.specs.Table.{root_rows};
-ghost use Rattle.calls.specs.Given.{given_label, given_root, given_maybe, selected_fields};
+ghost use Rattle.calls.specs.Given.{given_label, given_root, given_maybe, which_fields, selected_fields};
 
-use crate::tell::{four, none, three};
+use crate::tell::told;
 use crate::{Fields, Numbers, byte};
-use root::{Label, MaybeRoot, Root, Selected, Supported};
+use error::Error;
+use root::{Label, Root, Selected};
 
-fn slot_root(block: &[u8], slot: u64, blocks: u64) -> Supported
-    ensures { result ≡ slot_root block.now slot blocks }
-{
-    root::supported_root(Root::decode(block, slot, blocks))
-}
-
-fn selection(s: Selected) -> Fields
-    ensures { result ≡ told (choice_words s) }
-{
-    let root = s.root;
-    let answer = s.answer;
-    four(
-        error::check_class(answer) as u64,
-        error::check_reason(answer) as u64,
-        s.which as u64,
-        root.generation,
-    )
-}
-
+#[tactic(auto, unfolding(crate::specs::Told::fields_in, crate::specs::Table::root_rows))]
 pub(crate) fn answer(call: u8, n: Numbers, a: &[u8], b: &[u8]) -> Fields
     ensures { result ≡ told (fields_in call (root_rows n a.now b.now)) }
 {
     if call != 35 {
-        return none();
+        return told([]);
     }
-    let first = slot_root(a, n.a, n.b);
-    let second = slot_root(b, n.c, n.d);
-    selection(root::choose_root(first, second))
+    let first = carryfs::slot_root(a, n.a, n.b);
+    let second = carryfs::slot_root(b, n.c, n.d);
+    told(carryfs::choice_words(root::choose_root(first, second)))
 }
 
 fn given_label(stored: &[u8], text: &[u8]) -> Label
     ensures { result ≡ given_label stored.now text.now }
 {
-    let bytes = octets::copy255(text);
     Label {
         len: byte(octets::u64_at(stored, 16)),
-        bytes,
+        bytes: octets::padded::<255>(text),
     }
 }
 
 // A made-up root: its numbers stand one after the other, eight bytes each.
+#[tactic(auto, unfolding(crate::specs::Given::given_root))]
 fn given_root(stored: &[u8], uuid: &[u8], text: &[u8]) -> Root
     ensures { result ≡ given_root stored.now uuid.now text.now }
 {
-    let label = given_label(stored, text);
-    let id = octets::copy16(uuid);
+    let label = if octets::u64_at(stored, 8) == 1 {
+        Some(given_label(stored, text))
+    } else {
+        None
+    };
     Root {
-        has_label: octets::u64_at(stored, 8) == 1,
         label,
-        uuid: id,
+        uuid: octets::padded::<16>(uuid),
         generation: octets::u64_at(stored, 24),
         blocks: octets::u64_at(stored, 32),
         catalog: volume::ref_at(stored, 40),
@@ -72,17 +56,31 @@ fn given_root(stored: &[u8], uuid: &[u8], text: &[u8]) -> Root
     }
 }
 
-fn given_maybe(stored: &[u8], uuid: &[u8], text: &[u8]) -> MaybeRoot
+#[tactic(auto, unfolding(crate::specs::Given::given_maybe))]
+fn given_maybe(stored: &[u8], uuid: &[u8], text: &[u8]) -> Option<Root>
     ensures { result ≡ given_maybe stored.now uuid.now text.now }
 {
-    let root = given_root(stored, uuid, text);
-    MaybeRoot {
-        present: octets::u64_at(stored, 0) == 1,
-        root,
+    if octets::u64_at(stored, 0) != 1 {
+        return None;
+    }
+    Some(given_root(stored, uuid, text))
+}
+
+fn which(chosen: Result<Selected, Error>) -> Fields
+    ensures { result ≡ told (which_fields chosen) }
+{
+    match chosen {
+        Ok(s) => told([0, 0, u64::from(s.which)]),
+        Err(e) => told([
+            u64::from(error::class_of(e)),
+            u64::from(error::reason_of(e)),
+            0,
+        ]),
     }
 }
 
 // The fields of call 41, from its bytes: 34 numbers from byte 1 on, then two strings of 16 and 255 bytes for each root.
+#[tactic(auto, unfolding(crate::specs::Given::selected_fields))]
 pub fn selected(input: &[u8]) -> Fields
     ensures { result ≡ told (selected_fields input.now) }
 {
@@ -96,11 +94,5 @@ pub fn selected(input: &[u8]) -> Fields
         octets::tail(input, 556),
         octets::tail(input, 576),
     );
-    let s = root::select_root(a, b);
-    let answer = s.answer;
-    three(
-        error::check_class(answer) as u64,
-        error::check_reason(answer) as u64,
-        s.which as u64,
-    )
+    which(root::select_root(a, b))
 }

@@ -31,34 +31,36 @@ pub struct Numbers {
 }
 
 // The first `count` of the values are a call's fields; the others are 0.
+// Kept: an array and a count beside it: fixed memory, nothing allocates.
 #[derive(Clone, Copy)]
 pub struct Fields {
     pub count: usize,
     pub values: [u64; 7],
 }
 
+#[tactic(auto, unfolding(crate::specs::Told::at_most))]
 fn word(value: u64) -> u32
     ensures { result ≡ at_most 4294967295 value }
 {
-    if value <= 0xFFFF_FFFF {
-        value as u32
-    } else {
-        0
-    }
+    u32::try_from(value).unwrap_or(0)
 }
 
+#[tactic(auto, unfolding(crate::specs::Told::at_most))]
 pub fn short(value: u64) -> u16
     ensures { result ≡ at_most 65535 value }
 {
-    if value <= 0xFFFF { value as u16 } else { 0 }
+    u16::try_from(value).unwrap_or(0)
 }
 
+#[tactic(auto, unfolding(crate::specs::Told::at_most))]
 fn byte(value: u64) -> u8
     ensures { result ≡ at_most 255 value }
 {
-    if value <= 0xFF { value as u8 } else { 0 }
+    u8::try_from(value).unwrap_or(0)
 }
 
+// Kept: a `From` for another crate's type can't stand here.
+#[tactic(auto, unfolding(crate::specs::Told::mode_of))]
 fn mode(value: u64) -> Validation
     ensures { result ≡ mode_of value }
 {
@@ -76,6 +78,7 @@ fn reference(block: u64, generation: u64) -> TreeRef
 }
 
 // The calls below 20.
+// Kept: a call is chosen by its number, which is probe's protocol; its numbers and strings go as they are: of a struct that holds two lent strings every clause would say `.entry`.
 fn low_fields(call: u8, n: Numbers, a: &[u8], b: &[u8]) -> Fields
     ensures { result ≡ told (fields_in call (low_rows n a.now b.now)) }
 {

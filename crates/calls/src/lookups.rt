@@ -5,57 +5,105 @@ ghost use Rattle.hand.specs.Hand.{scratch_in};
 ghost use Rattle.carryfs.specs.Words.{floor_words};
 ghost use Rattle.calls.specs.Told.{told};
 ghost use Rattle.calls.specs.Table.{page_asked};
-ghost use Rattle.calls.specs.Given.{handed_fields, hand_asked};
+ghost use Rattle.calls.specs.Given.{given_fields, first_fields, handed_fields, hand_asked};
 
-use crate::tell::{flag_of, four};
+use crate::tell::told;
 use crate::{Fields, Numbers, byte, reference};
-use hand::Handed;
-use lookup::Answer;
-
-// Whether there is a record, its index, how many there are from it on, and where they start.
-fn found(a: Answer) -> Fields
-    ensures { result ≡ told (floor_words a) }
-{
-    four(
-        flag_of(a.found),
-        a.index as u64,
-        a.remaining as u64,
-        a.from as u64,
-    )
-}
+use error::Error;
+use hand::{First, Given, Handed};
 
 // The fields of call 39 but for the scratch, which is lent.
 pub fn floor_fields(n: Numbers, payload: &[u8], key: &[u8], scratch: &mut [u16]) -> Fields
     ensures value { result ≡ told (floor_words (floor_answer payload.now n.a key.now (length scratch.old))) }
     ensures scratch_after { scratch.new ≡ scratch_of payload.now n.a scratch.old }
 {
-    found(lookup::floor_answer(payload, n.a as usize, key, scratch))
+    told(carryfs::floor_words(lookup::floor_answer(payload, n.a as usize, key, scratch)))
 }
 
-// What the view states, the lookup's numbers, and of the first record the lengths and checksums of its key and its value.
-fn handed_numbers(h: Handed) -> [u64; 14]
-    ensures { result ≡ handed_fields h }
+// Of so many records: whether one is given, of its key and its value the lengths and checksums, how many are left.
+fn given_numbers(left: usize, given: Option<Given>) -> [u64; 6]
+    ensures { result ≡ given_fields left given }
 {
-    let f = h.first;
+    match given {
+        Some(g) => [
+            1,
+            g.key_len as u64,
+            u64::from(g.key_sum),
+            g.value_len as u64,
+            u64::from(g.value_sum),
+            g.left as u64,
+        ],
+        None => [0, 0, 0, 0, 0, left as u64],
+    }
+}
+
+// Whether a record is found, its index, how many there are from it on, and the first of them.
+fn first_numbers(first: Option<First>) -> [u64; 9]
+    ensures { result ≡ first_fields first }
+{
+    let Some(f) = first else {
+        return [0; 9];
+    };
+    let [given, key_len, key_sum, value_len, value_sum, left] = given_numbers(f.remaining, f.given);
     [
-        h.class as u64,
-        h.reason as u64,
-        h.level as u64,
-        h.data_blocks,
-        h.count as u64,
-        flag_of(f.found),
+        1,
         f.index as u64,
         f.remaining as u64,
-        flag_of(f.given),
-        f.key_len as u64,
-        f.key_sum as u64,
-        f.value_len as u64,
-        f.value_sum as u64,
-        f.left as u64,
+        given,
+        key_len,
+        key_sum,
+        value_len,
+        value_sum,
+        left,
     ]
 }
 
+// What the view states, and what the lookup finds.
+#[tactic(auto, unfolding(crate::specs::Given::handed_fields))]
+fn handed_numbers(handed: Result<Handed, Error>) -> [u64; 14]
+    ensures { result ≡ handed_fields handed }
+{
+    match handed {
+        Ok(h) => {
+            let [
+                found,
+                index,
+                remaining,
+                given,
+                key_len,
+                key_sum,
+                value_len,
+                value_sum,
+                left,
+            ] = first_numbers(h.first);
+            [
+                0,
+                0,
+                u64::from(h.level),
+                h.data_blocks,
+                h.count as u64,
+                found,
+                index,
+                remaining,
+                given,
+                key_len,
+                key_sum,
+                value_len,
+                value_sum,
+                left,
+            ]
+        }
+        Err(e) => {
+            let mut fields = [0; 14];
+            fields[0] = u64::from(error::class_of(e));
+            fields[1] = u64::from(error::reason_of(e));
+            fields
+        }
+    }
+}
+
 // The fields of call 43 but for the scratch, which is lent.
+#[tactic(auto, unfolding(crate::specs::Given::hand_asked, crate::specs::Table::page_asked))]
 pub fn handed_fields(
     n: Numbers,
     uuid: &[u8],
@@ -66,7 +114,7 @@ pub fn handed_fields(
     ensures value { result ≡ handed_fields (hand_asked n uuid.now page.now key.now (length scratch.old)) }
     ensures scratch_after { scratch.new ≡ scratch_in (page_asked n uuid.now page.now) page.now scratch.old }
 {
-    let id = octets::copy16(uuid);
+    let id = octets::padded::<16>(uuid);
     handed_numbers(hand::hand_out(
         page,
         reference(n.a, n.b),

@@ -4,60 +4,59 @@ ghost use Rattle.carryfs.specs.Words.{page_words, unit_words};
 ghost use Rattle.calls.specs.Told.{told, fields_in, step_fields, draft_fields};
 ghost use Rattle.calls.specs.Table.{page_rows, page_asked, view_asked, walked_records};
 
-use crate::tell::{flag_of, none, number, six};
+use crate::tell::{number, told};
 use crate::{Fields, Numbers, byte, mode, reference};
+use error::Error;
 use lookup::Step;
 use page::Page;
 use walk::RecordValidation;
 
 // Whether there is a record, its key's offset and length, its value's, and the offset of the rest.
-fn step(s: Step) -> Fields
-    ensures { result ≡ told (step_fields s) }
+fn step(step: Option<Step>) -> Fields
+    ensures { result ≡ told (step_fields step) }
 {
-    six(
-        flag_of(s.found),
-        s.key_start as u64,
-        volume::saturating_sub(s.key_end as u64, s.key_start as u64),
-        s.key_end as u64,
-        volume::saturating_sub(s.value_end as u64, s.key_end as u64),
-        s.value_end as u64,
-    )
+    match step {
+        Some(s) => told([
+            1,
+            s.key_start as u64,
+            s.key_end.saturating_sub(s.key_start) as u64,
+            s.key_end as u64,
+            s.value_end.saturating_sub(s.key_end) as u64,
+            s.value_end as u64,
+        ]),
+        None => told([0; 6]),
+    }
 }
 
-// Class, reason, level, total, count, and the payload's offset and length.
-fn told_page(p: Page) -> Fields
-    ensures { result ≡ told (page_words p) }
+// Class, reason, level, count, and the payload's offset and length.
+fn told_draft(page: Result<Page, Error>) -> Fields
+    ensures { result ≡ told (draft_fields page) }
 {
-    let values = [
-        p.class as u64,
-        p.reason as u64,
-        p.level as u64,
-        p.data_blocks,
-        p.count as u64,
-        p.start as u64,
-        volume::saturating_sub(p.end as u64, p.start as u64),
-    ];
-    Fields { count: 7, values }
+    match page {
+        Ok(p) => told([
+            0,
+            0,
+            u64::from(p.level),
+            p.count as u64,
+            p.start as u64,
+            p.end.saturating_sub(p.start) as u64,
+        ]),
+        Err(e) => told([
+            u64::from(error::class_of(e)),
+            u64::from(error::reason_of(e)),
+            0,
+            0,
+            0,
+            0,
+        ]),
+    }
 }
 
-// The same without a total.
-fn told_draft(p: Page) -> Fields
-    ensures { result ≡ told (draft_fields p) }
-{
-    six(
-        p.class as u64,
-        p.reason as u64,
-        p.level as u64,
-        p.count as u64,
-        p.start as u64,
-        volume::saturating_sub(p.end as u64, p.start as u64),
-    )
-}
-
-fn decode_page(n: Numbers, uuid: &[u8], page: &[u8]) -> Page
+#[tactic(auto, unfolding(crate::specs::Table::page_asked))]
+fn decode_page(n: Numbers, uuid: &[u8], page: &[u8]) -> Result<Page, Error>
     ensures { result ≡ page_asked n uuid.now page.now }
 {
-    let id = octets::copy16(uuid);
+    let id = octets::padded::<16>(uuid);
     page::page_answer(
         page,
         reference(n.a, n.b),
@@ -69,10 +68,11 @@ fn decode_page(n: Numbers, uuid: &[u8], page: &[u8]) -> Page
     )
 }
 
-fn verified_page_view(n: Numbers, uuid: &[u8], page: &[u8]) -> Page
+#[tactic(auto, unfolding(crate::specs::Table::view_asked))]
+fn verified_page_view(n: Numbers, uuid: &[u8], page: &[u8]) -> Result<Page, Error>
     ensures { result ≡ view_asked n uuid.now page.now }
 {
-    let id = octets::copy16(uuid);
+    let id = octets::padded::<16>(uuid);
     page::verified_answer(
         page,
         reference(n.a, n.b),
@@ -83,6 +83,7 @@ fn verified_page_view(n: Numbers, uuid: &[u8], page: &[u8]) -> Page
     )
 }
 
+#[tactic(auto, unfolding(crate::specs::Table::walked_records))]
 fn validate_records(n: Numbers, rest: &[u8]) -> Fields
     ensures { result ≡ told (unit_words (walked_records n rest.now)) }
 {
@@ -96,15 +97,16 @@ fn validate_records(n: Numbers, rest: &[u8]) -> Fields
     number(walk::validate_records(rest, n.f as usize, n.g as usize, context))
 }
 
+#[tactic(auto, unfolding(crate::specs::Told::fields_in, crate::specs::Table::page_rows))]
 pub(crate) fn answer(call: u8, n: Numbers, a: &[u8], b: &[u8]) -> Fields
     ensures { result ≡ told (fields_in call (page_rows n a.now b.now)) }
 {
     match call {
-        36 => told_page(decode_page(n, a, b)),
-        37 => told_page(verified_page_view(n, a, b)),
+        36 => told(carryfs::page_words(decode_page(n, a, b))),
+        37 => told(carryfs::page_words(verified_page_view(n, a, b))),
         38 => told_draft(page::draft_answer(a)),
         40 => step(lookup::next_record(a, n.a as usize)),
         42 => validate_records(n, a),
-        _ => none(),
+        _ => told([]),
     }
 }

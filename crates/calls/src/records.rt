@@ -4,27 +4,22 @@ ghost use Rattle.carryfs.specs.Words.{slot_words};
 ghost use Rattle.calls.specs.Told.{told, fields_in, child_fields, front_fields};
 ghost use Rattle.calls.specs.Table.{time_fields, inode_rows, entry_rows, record_rows};
 
-use crate::tell::{check, four, none, number, one, refused};
+use crate::tell::{check, number, told};
 use crate::{Fields, Numbers, mode, word};
-use group::Slot;
-use record::Child;
+use error::Error;
+use volume::TreeRef;
 
-fn child(answer: Child) -> Fields
+fn child(answer: Result<TreeRef, Error>) -> Fields
     ensures { result ≡ told (child_fields answer) }
 {
     match answer {
-        Child::Reference(r) => four(0, 0, r.block, r.generation),
-        Child::Refused(e) => refused(e),
-    }
-}
-
-fn slot(answer: Slot) -> Fields
-    ensures { result ≡ told (slot_words answer) }
-{
-    match answer {
-        Slot::Hole => four(0, 0, 0, 0),
-        Slot::Word(w) => four(0, 0, 1, w as u64),
-        Slot::Refused(e) => refused(e),
+        Ok(r) => told([0, 0, r.block, r.generation]),
+        Err(e) => told([
+            u64::from(error::class_of(e)),
+            u64::from(error::reason_of(e)),
+            0,
+            0,
+        ]),
     }
 }
 
@@ -32,7 +27,7 @@ fn compact_group(group: &[u8]) -> Fields
     ensures { result ≡ told (front_fields group.now) }
 {
     let front = group::compact_group(group);
-    one(front.len() as u64)
+    told([front.len() as u64])
 }
 
 fn validate_timestamp_range(n: Numbers) -> Fields
@@ -43,6 +38,7 @@ fn validate_timestamp_range(n: Numbers) -> Fields
 }
 
 // Calls 20 to 23.
+#[tactic(auto, unfolding(crate::specs::Told::fields_in, crate::specs::Table::inode_rows))]
 pub(crate) fn answer_inode(call: u8, n: Numbers, a: &[u8]) -> Fields
     ensures { result ≡ told (fields_in call (inode_rows n a.now)) }
 {
@@ -51,11 +47,12 @@ pub(crate) fn answer_inode(call: u8, n: Numbers, a: &[u8]) -> Fields
         21 => check(catalog::validate_owner_id(n.a, mode(n.b))),
         22 => check(catalog::validate_symlink_target(a, mode(n.a))),
         23 => check(catalog::validate_inode(a, n.a, mode(n.b))),
-        _ => none(),
+        _ => told([]),
     }
 }
 
 // Calls 24 to 26.
+#[tactic(auto, unfolding(crate::specs::Told::fields_in, crate::specs::Table::entry_rows))]
 pub(crate) fn answer_entry(call: u8, n: Numbers, a: &[u8], b: &[u8]) -> Fields
     ensures { result ≡ told (fields_in call (entry_rows n a.now b.now)) }
 {
@@ -63,11 +60,12 @@ pub(crate) fn answer_entry(call: u8, n: Numbers, a: &[u8], b: &[u8]) -> Fields
         24 => check(catalog::validate_directory_entry(a, mode(n.a))),
         25 => number(catalog::validate_extent(a, b, n.a, mode(n.b))),
         26 => check(group::validate_checksum_group(a, b, mode(n.a))),
-        _ => none(),
+        _ => told([]),
     }
 }
 
 // Calls 27 to 31.
+#[tactic(auto, unfolding(crate::specs::Told::fields_in, crate::specs::Table::record_rows))]
 pub(crate) fn answer_record(call: u8, n: Numbers, a: &[u8], b: &[u8]) -> Fields
     ensures { result ≡ told (fields_in call (record_rows n a.now b.now)) }
 {
@@ -76,8 +74,8 @@ pub(crate) fn answer_record(call: u8, n: Numbers, a: &[u8], b: &[u8]) -> Fields
         27 => number(record::validate_leaf_record(kind, a, b, n.b, n.c, mode(n.d))),
         28 => child(record::validate_internal_record(kind, a, b, n.b, n.c, mode(n.d))),
         29 => number(record::leaf_record_blocks(kind, a, b, n.b, n.c)),
-        30 => slot(group::checksum_slot(a, n.a as usize)),
+        30 => told(carryfs::slot_words(group::checksum_slot(a, n.a as usize))),
         31 => compact_group(a),
-        _ => none(),
+        _ => told([]),
     }
 }

@@ -1,3 +1,2 @@
-pub mod Fill
-pub mod Answers
-pub mod Refused
+pub mod Text
+pub mod Bare

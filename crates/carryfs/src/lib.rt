@@ -1,337 +1,190 @@
-// The C interface of the reader: include/carryfs.h says what each function answers. A slice is a pointer and a length, a result a
-// number. Answers of several numbers are written as words at the front of a lent array, or not at all where it has no room for them.
+// The answers of the reader as words of 64 bits, for callers that can hold no more than numbers: the C interface, and the program probe.
 #![tactic(auto)]
 
-ghost use Rattle.std.specs.Prelude.{◌≡◌, ◌&&◌, cond, ◌≤◌, length};
-ghost use Rattle.crc.specs.Crc.{extend, crc32c};
-ghost use Rattle.crc.specs.DataUnit.{data_unit_crc};
-ghost use Rattle.group.specs.Group.{checksum_slot};
-ghost use Rattle.lookup.specs.Floor.{over, floor_answer, scratch_of, next_record};
+ghost use Rattle.std.specs.Prelude.{◌≡◌, ℕ, ◌-◌, ◌≤◌, ◌∷◌, ◌++◌, replicate};
+ghost use Rattle.error.specs.Answer.{class_of, reason_of};
 ghost use Rattle.root.specs.Root.{root_decode};
-ghost use Rattle.root.specs.Select.{choose_root};
-ghost use Rattle.carryfs.specs.Words.{flag, room, status_of, asked_status, placed, slot_words, check_words, group_words, is_uuid, unit_words, floor_words, step_words, root_words, root_text, slot_root, choice_words, can_ask, page_words, asked_page};
+ghost use Rattle.carryfs.specs.Words.{slot_words, check_words, unit_words, floor_words, step_words, label_len, label_bytes, root_words, root_text, slot_root, choice_words, page_words};
 
-use error::{Check, Number, Validation};
-use group::Slot;
+use error::Error;
 use lookup::{Answer, Step};
 use page::Page;
-use root::{Decoded, Root, Selected, Supported};
-use volume::TreeRef;
+use root::{Label, Root, Selected};
 
-// The checksum of `bytes`.
-pub fn carryfs_crc32c(bytes: &[u8]) -> u32
-    ensures { result ≡ crc32c bytes.now }
+// A refusal's class and reason, and zeros behind them.
+fn refused<const N: usize>(e: Error) -> [u64; N]
+    requires { 2 ≤ N }
+    ensures { result ≡ class_of e ∷ reason_of e ∷ replicate (N - 2) 0 }
 {
-    crc::crc32c(bytes)
+    let mut words = [0; N];
+    words[0] = u64::from(error::class_of(e));
+    words[1] = u64::from(error::reason_of(e));
+    words
 }
 
-// The register after `bytes`, with no inversion at either end.
-pub fn carryfs_extend(register: u32, bytes: &[u8]) -> u32
-    ensures { result ≡ extend register bytes.now }
-{
-    crc::software_extend(register, bytes)
-}
-
-fn flag_of(test: bool) -> u64
-    ensures { result ≡ flag test }
-{
-    if test { 1 } else { 0 }
-}
-
-fn put_words(words: &[u64], out: &mut [u64])
-    requires { length words.now ≤ length out.old }
-    ensures { out.new ≡ over words.now out.old }
-{
-    let mut i = 0;
-    while i < words.len() {
-        out[i] = words[i];
-        i += 1;
-    }
-}
-
-fn place(words: &[u64], out: &mut [u64]) -> u32
-    ensures { (result ≡ status_of (room (length words.now) out.old)) × (out.new ≡ placed (room (length words.now) out.old) words.now out.old) }
-{
-    if out.len() < words.len() {
-        return 1;
-    }
-    put_words(words, out);
-    0
-}
-
-fn slot_words(slot: Slot) -> [u64; 4]
+// A slot of a checksum group: class, reason, whether there is a word, the word.
+pub fn slot_words(slot: Result<Option<u32>, Error>) -> [u64; 4]
     ensures { result ≡ slot_words slot }
 {
     match slot {
-        Slot::Hole => [0, 0, 0, 0],
-        Slot::Word(word) => [0, 0, 1, word as u64],
-        Slot::Refused(e) => [error::class_of(e) as u64, error::reason_of(e) as u64, 0, 0],
+        Ok(Some(word)) => [0, 0, 1, u64::from(word)],
+        Ok(None) => [0; 4],
+        Err(e) => refused(e),
     }
 }
 
-// The word in a slot of a checksum group.
-pub fn carryfs_slot(group: &[u8], slot: usize, out: &mut [u64]) -> u32
-    ensures { (result ≡ status_of (room 4 out.old)) × (out.new ≡ placed (room 4 out.old) (slot_words (checksum_slot group.now slot)) out.old) }
-{
-    let words = slot_words(group::checksum_slot(group, slot));
-    place(&words, out)
-}
-
-fn check_words(check: Check) -> [u64; 2]
+// A check: class and reason.
+pub fn check_words(check: Result<(), Error>) -> [u64; 2]
     ensures { result ≡ check_words check }
 {
     [
-        error::check_class(check) as u64,
-        error::check_reason(check) as u64,
+        u64::from(error::check_class(check)),
+        u64::from(error::check_reason(check)),
     ]
 }
 
-// A checksum group's record, as it stands in a leaf of the catalog.
-pub fn carryfs_group(key: &[u8], value: &[u8], out: &mut [u64]) -> u32
-    ensures { (result ≡ status_of (room 2 out.old)) × (out.new ≡ placed (room 2 out.old) (group_words key.now value.now) out.old) }
-{
-    let words = check_words(group::validate_checksum_group(key, value, Validation::Disk));
-    place(&words, out)
-}
-
-fn unit_words(sum: Number) -> [u64; 3]
+// A check that gives a number: class, reason, the number.
+#[tactic(auto, unfolding(crate::specs::Words::unit_words))]
+pub fn unit_words(sum: Result<u64, Error>) -> [u64; 3]
     ensures { result ≡ unit_words sum }
 {
     match sum {
-        Number::Value(word) => [0, 0, word],
-        Number::Refused(e) => [error::class_of(e) as u64, error::reason_of(e) as u64, 0],
+        Ok(word) => [0, 0, word],
+        Err(e) => refused(e),
     }
 }
 
-fn asked_unit(uuid: &[u8], object: u64, unit: u64, valid: &[u8]) -> [u64; 3]
-    requires { length uuid.now ≡ 16 }
-    ensures { result ≡ unit_words (data_unit_crc uuid.now object unit valid.now) }
+// The record at the front of a part with so many records left: whether there is one, its key's start and end, its value's end, how many are left.
+#[tactic(auto, unfolding(crate::specs::Words::step_words))]
+pub fn step_words(left: usize, step: Option<Step>) -> [u64; 5]
+    ensures { result ≡ step_words left step }
 {
-    let id = octets::copy16(uuid);
-    unit_words(crc::data_unit_crc(&id, object, unit, valid))
-}
-
-// The word of a unit of a file's data, from its valid bytes.
-pub fn carryfs_data_unit(uuid: &[u8], object: u64, unit: u64, valid: &[u8], out: &mut [u64]) -> u32
-    ensures value { result ≡ asked_status (is_uuid (length uuid.now)) (room 3 out.old) }
-    ensures out_after { out.new ≡ placed (is_uuid (length uuid.now) && room 3 out.old) (unit_words (data_unit_crc uuid.now object unit valid.now)) out.old }
-{
-    if uuid.len() != 16 {
-        return 2;
+    match step {
+        Some(s) => [
+            1,
+            s.key_start as u64,
+            s.key_end as u64,
+            s.value_end as u64,
+            s.remaining as u64,
+        ],
+        None => [0, 0, 0, 0, left as u64],
     }
-    let words = asked_unit(uuid, object, unit, valid);
-    place(&words, out)
 }
 
-fn step_words(step: Step) -> [u64; 5]
-    ensures { result ≡ step_words step }
-{
-    [
-        flag_of(step.found),
-        step.key_start as u64,
-        step.key_end as u64,
-        step.value_end as u64,
-        step.remaining as u64,
-    ]
-}
-
-// The record at the front of a part with so many records left.
-pub fn carryfs_next(part: &[u8], remaining: usize, out: &mut [u64]) -> u32
-    ensures { (result ≡ status_of (room 5 out.old)) × (out.new ≡ placed (room 5 out.old) (step_words (next_record part.now remaining)) out.old) }
-{
-    let words = step_words(lookup::next_record(part, remaining));
-    place(&words, out)
-}
-
-fn floor_words(answer: Answer) -> [u64; 4]
+// A floor lookup: whether there is a record, its index, how many there are from it on, where they start.
+#[tactic(auto, unfolding(crate::specs::Words::floor_words))]
+pub fn floor_words(answer: Option<Answer>) -> [u64; 4]
     ensures { result ≡ floor_words answer }
 {
-    [
-        flag_of(answer.found),
-        answer.index as u64,
-        answer.remaining as u64,
-        answer.from as u64,
-    ]
-}
-
-// The last record whose key is not above the sought one. Without room for the answer the scratch isn't written either.
-pub fn carryfs_lookup(
-    payload: &[u8],
-    count: usize,
-    key: &[u8],
-    scratch: &mut [u16],
-    out: &mut [u64],
-) -> u32
-    ensures value { result ≡ status_of (room 4 out.old) }
-    ensures out_after { out.new ≡ placed (room 4 out.old) (floor_words (floor_answer payload.now count key.now (length scratch.old))) out.old }
-    ensures scratch_after { scratch.new ≡ cond (room 4 out.old) (scratch_of payload.now count scratch.old) scratch.old }
-{
-    if out.len() < 4 {
-        return 1;
+    match answer {
+        Some(a) => [1, a.index as u64, a.remaining as u64, a.from as u64],
+        None => [0; 4],
     }
-    let words = floor_words(lookup::floor_answer(payload, count, key, scratch));
-    place(&words, out)
 }
 
-// A root's answer as numbers, in the order in which the root holds them. For carryfs_root and the crate lines.
-pub fn root_words(decoded: Decoded) -> [u64; 18]
+fn label_len(label: Option<Label>) -> u8
+    ensures { result ≡ label_len label }
+{
+    match label {
+        Some(l) => l.len,
+        None => 0,
+    }
+}
+
+// A label's bytes, zeros for none.
+pub fn label_bytes(label: Option<Label>) -> [u8; 255]
+    ensures { result ≡ label_bytes label }
+{
+    match label {
+        Some(l) => l.bytes,
+        None => [0; 255],
+    }
+}
+
+// A root's answer as numbers, in the order in which the root holds them.
+#[tactic(auto, unfolding(crate::specs::Words::root_words))]
+pub fn root_words(decoded: Result<Root, Error>) -> [u64; 18]
     ensures { result ≡ root_words decoded }
 {
-    let answer = decoded.answer;
-    let root = decoded.root;
-    let label = root.label;
-    let catalog = root.catalog;
-    let allocation = root.allocation;
-    let cleanup = root.cleanup;
-    let workspace = root.workspace;
-    [
-        error::check_class(answer) as u64,
-        error::check_reason(answer) as u64,
-        flag_of(root.has_label),
-        label.len as u64,
-        root.generation,
-        root.blocks,
-        catalog.block,
-        catalog.generation,
-        allocation.block,
-        allocation.generation,
-        cleanup.block,
-        cleanup.generation,
-        root.next_object,
-        root.free_blocks,
-        root.next_job,
-        workspace.block,
-        workspace.generation,
-        root.workspace_cursor,
-    ]
-}
-
-fn put_text(root: Root, text: &mut [u8])
-    requires { 271 ≤ length text.old }
-    ensures { text.new ≡ over (root_text root) text.old }
-{
-    let uuid = root.uuid;
-    let label = root.label;
-    let bytes = label.bytes;
-    let behind = octets::put(text, 0, &uuid);
-    octets::put(text, behind, &bytes);
-}
-
-// The root in a slot's block: its numbers in `out`, its UUID and its label's bytes in `text`.
-pub fn carryfs_root(bytes: &[u8], slot: u64, blocks: u64, out: &mut [u64], text: &mut [u8]) -> u32
-    ensures value { result ≡ status_of (room 18 out.old && room 271 text.old) }
-    ensures out_after { out.new ≡ placed (room 18 out.old && room 271 text.old) (root_words (root_decode bytes.now slot blocks)) out.old }
-    ensures text_after { text.new ≡ placed (room 18 out.old && room 271 text.old) (root_text (root_decode bytes.now slot blocks).root) text.old }
-{
-    if out.len() < 18 {
-        return 1;
+    match decoded {
+        Ok(root) => [
+            0,
+            0,
+            u64::from(root.label.is_some()),
+            u64::from(label_len(root.label)),
+            root.generation,
+            root.blocks,
+            root.catalog.block,
+            root.catalog.generation,
+            root.allocation.block,
+            root.allocation.generation,
+            root.cleanup.block,
+            root.cleanup.generation,
+            root.next_object,
+            root.free_blocks,
+            root.next_job,
+            root.workspace.block,
+            root.workspace.generation,
+            root.workspace_cursor,
+        ],
+        Err(e) => refused(e),
     }
-    if text.len() < 271 {
-        return 1;
-    }
-    let decoded = Root::decode(bytes, slot, blocks);
-    let words = root_words(decoded);
-    put_words(&words, out);
-    put_text(decoded.root, text);
-    0
 }
 
-fn slot_root(bytes: &[u8], slot: u64, blocks: u64) -> Supported
+// A UUID, then a label's bytes.
+fn joined(uuid: &[u8; 16], label: &[u8; 255]) -> [u8; 271]
+    ensures { result ≡ uuid.now ++ label.now }
+{
+    let mut text = [0; 271];
+    let behind = octets::put(&mut text, 0, uuid);
+    octets::put(&mut text, behind, label);
+    text
+}
+
+// A root's UUID, then its label's bytes; beside a refusal zeros.
+#[tactic(auto, unfolding(crate::specs::Words::root_text))]
+pub fn root_text(decoded: Result<Root, Error>) -> [u8; 271]
+    ensures { result ≡ root_text decoded }
+{
+    match decoded {
+        Ok(root) => joined(&root.uuid, &label_bytes(root.label)),
+        Err(_) => [0; 271],
+    }
+}
+
+// The root in a slot's block, as the choice between two takes it.
+pub fn slot_root(bytes: &[u8], slot: u64, blocks: u64) -> Result<Option<Root>, Error>
     ensures { result ≡ slot_root bytes.now slot blocks }
 {
     root::supported_root(Root::decode(bytes, slot, blocks))
 }
 
-fn choice_words(chosen: Selected) -> [u64; 4]
+// The choice between two roots: class, reason, 1 or 2, the chosen one's generation.
+#[tactic(auto, unfolding(crate::specs::Words::choice_words))]
+pub fn choice_words(chosen: Result<Selected, Error>) -> [u64; 4]
     ensures { result ≡ choice_words chosen }
 {
-    let answer = chosen.answer;
-    let root = chosen.root;
-    [
-        error::check_class(answer) as u64,
-        error::check_reason(answer) as u64,
-        chosen.which as u64,
-        root.generation,
-    ]
+    match chosen {
+        Ok(s) => [0, 0, u64::from(s.which), s.root.generation],
+        Err(e) => refused(e),
+    }
 }
 
-// The current root of two slots' blocks.
-pub fn carryfs_select(
-    first: &[u8],
-    first_slot: u64,
-    first_blocks: u64,
-    second: &[u8],
-    second_slot: u64,
-    second_blocks: u64,
-    out: &mut [u64],
-) -> u32
-    ensures value { result ≡ status_of (room 4 out.old) }
-    ensures out_after { out.new ≡ placed (room 4 out.old) (choice_words (choose_root (slot_root first.now first_slot first_blocks) (slot_root second.now second_slot second_blocks))) out.old }
-{
-    let a = slot_root(first, first_slot, first_blocks);
-    let b = slot_root(second, second_slot, second_blocks);
-    let words = choice_words(root::choose_root(a, b));
-    place(&words, out)
-}
-
-fn can_ask(size: usize, kind: u32, level: u32) -> bool
-    ensures { result ≡ can_ask size kind level }
-{
-    (size == 16) & ((1 <= kind) & (kind <= 4)) & (level <= 255)
-}
-
-fn page_words(page: Page) -> [u64; 7]
+// A page: class, reason, level, total, count, where its payload starts, its length.
+#[tactic(auto, unfolding(crate::specs::Words::page_words))]
+pub fn page_words(page: Result<Page, Error>) -> [u64; 7]
     ensures { result ≡ page_words page }
 {
-    [
-        page.class as u64,
-        page.reason as u64,
-        page.level as u64,
-        page.data_blocks,
-        page.count as u64,
-        page.start as u64,
-        volume::saturating_sub(page.end as u64, page.start as u64),
-    ]
-}
-
-fn asked_page(
-    bytes: &[u8],
-    block: u64,
-    generation: u64,
-    uuid: &[u8],
-    kind: u32,
-    parent: u64,
-    level: u32,
-    blocks: u64,
-) -> [u64; 7]
-    requires { (length uuid.now ≡ 16) × (level ≤ 255) }
-    ensures { result ≡ asked_page bytes.now block generation uuid.now kind parent level blocks }
-{
-    let id = octets::copy16(uuid);
-    let reference = TreeRef { block, generation };
-    let tree = volume::tree_kind_of(kind as u64);
-    let expected = page::expected_of(level as u8);
-    page_words(page::page_answer(bytes, reference, &id, tree, parent, expected, blocks))
-}
-
-// The page that a reference names.
-pub fn carryfs_page(
-    bytes: &[u8],
-    block: u64,
-    generation: u64,
-    uuid: &[u8],
-    kind: u32,
-    parent: u64,
-    level: u32,
-    blocks: u64,
-    out: &mut [u64],
-) -> u32
-    ensures value { result ≡ asked_status (can_ask (length uuid.now) kind level) (room 7 out.old) }
-    ensures out_after { out.new ≡ placed (can_ask (length uuid.now) kind level && room 7 out.old) (asked_page bytes.now block generation uuid.now kind parent level blocks) out.old }
-{
-    if !can_ask(uuid.len(), kind, level) {
-        return 2;
+    match page {
+        Ok(p) => [
+            0,
+            0,
+            u64::from(p.level),
+            p.data_blocks,
+            p.count as u64,
+            p.start as u64,
+            p.end.saturating_sub(p.start) as u64,
+        ],
+        Err(e) => refused(e),
     }
-    let words = asked_page(bytes, block, generation, uuid, kind, parent, level, blocks);
-    place(&words, out)
 }

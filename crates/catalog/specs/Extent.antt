@@ -1,7 +1,8 @@
 -- Extents (01, section 5: field rules are the Rust's, here those of `validate_extent`).
+use Rattle.std.specs.Prelude.{Ok}
 use Rattle.std.specs.Prelude.{ℕ, ◌+◌, ◌^◌, Bool, not, ◌&&◌, List, [], ◌∷◌, leb, eqb, length}
 use Rattle.error.specs.declared.Validation.{Validation}
-use Rattle.error.specs.declared.Number.{Number}
+use Rattle.error.specs.Answer.{Number}
 use Rattle.error.specs.Answer.{violation_of}
 use Rattle.error.specs.Demand.{Demand, ◌otherwise◌, outcome}
 use Rattle.error.specs.Reason as reason
@@ -48,4 +49,4 @@ extent_demands key value blocks mode =
 
 -- 01, "Return classes": the first that fails answers; else the count of its blocks
 unfoldable pub validate_extent : List ℕ → List ℕ → ℕ → Validation → Number
-validate_extent key value blocks mode = outcome (extent_demands key value blocks mode) Number.Refused (Number.Value (extent_count value))
+validate_extent key value blocks mode = outcome (extent_demands key value blocks mode) (Ok (extent_count value))

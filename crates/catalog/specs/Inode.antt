@@ -1,11 +1,12 @@
 -- Inodes and symlink targets (01, section 5: field rules are the Rust's, here those of `validate_inode` and `validate_symlink_target`).
-use Rattle.std.specs.Prelude.{ℕ, ◌-◌, ◌^◌, Bool, true, not, ◌&&◌, ◌||◌, cond, List, [], ◌∷◌, ◌++◌, leb, eqb, length, drop}
+use Rattle.std.specs.Prelude.{ℕ, ◌-◌, ◌^◌, Bool, not, ◌&&◌, ◌||◌, cond, List, [], ◌∷◌, ◌++◌, leb, eqb, length, drop}
+use Rattle.std.specs.List.{list_any}
 use Rattle.error.specs.declared.Error.{Error}
 use Rattle.error.specs.declared.Error.TheVariants.{Corrupt, TooLong}
 use Rattle.error.specs.declared.Validation.{Validation}
 use Rattle.error.specs.declared.Validation.TheVariants.{Input, Disk}
-use Rattle.error.specs.declared.Check.{Check}
-use Rattle.error.specs.declared.Check.TheVariants.{Passed}
+use Rattle.error.specs.Answer.{Check}
+use Rattle.std.specs.Prelude.{Ok}
 use Rattle.error.specs.Answer.{violation_of}
 use Rattle.error.specs.Demand.{Demand, ◌otherwise◌, passing, demands}
 use Rattle.error.specs.Reason as reason
@@ -16,9 +17,8 @@ use Rattle.catalog.specs.Keys.{validate_owner_id}
 use Rattle.catalog.specs.Times.{validate_timestamp}
 
 -- no byte is 0
-unfoldable pub without_nul : List ℕ → Bool
-without_nul [] = true
-without_nul (b ∷ bs) = not (eqb b 0) && without_nul bs
+abbrev pub without_nul : List ℕ → Bool
+without_nul bytes = not (list_any (λ b. eqb b 0) bytes)
 
 -- 01, "Return classes": a target over 1,023 bytes is class 6 in mode Input, class 3 in mode Disk
 abbrev pub too_long_of : Validation → ℕ → Error
@@ -109,7 +109,7 @@ inode_field_demands value blocks mode =
 
 -- `validate_inode`, READING-RULES 9.2: the target of a symlink (type 3) is checked; other inodes have none, and pass
 unfoldable pub target_check : List ℕ → Validation → Check
-target_check value mode = cond (eqb (inode_type value) 3) (validate_symlink_target (inode_target value) mode) Passed
+target_check value mode = cond (eqb (inode_type value) 3) (validate_symlink_target (inode_target value) mode) (Ok tt)
 
 -- `validate_inode`, READING-RULES 9.2: its three times, at 40, 56 and 72
 abbrev pub inode_time_demands : List ℕ → Validation → List Demand

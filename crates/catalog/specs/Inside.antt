@@ -1,7 +1,7 @@
 -- What private functions promise: the groups of an inode's demands. No public promise rests on these.
-use Rattle.std.specs.Prelude.{ℕ, List, [], ◌∷◌}
+use Rattle.std.specs.Prelude.{ℕ, List, ◌∷◌}
 use Rattle.error.specs.declared.Validation.{Validation}
-use Rattle.error.specs.declared.Check.{Check}
+use Rattle.error.specs.Answer.{Check}
 use Rattle.error.specs.Answer.{violation_of}
 use Rattle.error.specs.Demand.{Demand, ◌otherwise◌, passing, demands}
 use Rattle.error.specs.Reason as reason
@@ -15,10 +15,6 @@ inode_shape value mode = demands (inode_shape_demands value mode)
 unfoldable pub inode_fields : List ℕ → ℕ → Validation → Check
 inode_fields value blocks mode = demands (inode_field_demands value blocks mode)
 
--- the three times
-unfoldable pub inode_times : List ℕ → Validation → Check
-inode_times value mode = demands (inode_time_demands value mode)
-
 -- all of an inode's demands, by these groups
 abbrev pub inode_groups : List ℕ → ℕ → Validation → List Demand
 inode_groups value blocks mode =
@@ -26,5 +22,4 @@ inode_groups value blocks mode =
     ∷ flags_and_reserved value otherwise violation_of mode reason.invalid_inode_flags_or_reserved_bytes
     ∷ passing (inode_fields value blocks mode)
     ∷ passing (target_check value mode)
-    ∷ passing (inode_times value mode)
-    ∷ []
+    ∷ inode_time_demands value mode

@@ -1,8 +1,9 @@
 -- Owner numbers and keys of the catalog (01, section 5: field rules are the Rust's, here those of `validate_owner_id` and `validate_catalog_key`).
+use Rattle.std.specs.Prelude.{Ok}
 use Rattle.std.specs.Prelude.{ℕ, ◌-◌, ◌^◌, Bool, ◌&&◌, ◌||◌, List, [], ◌∷◌, leb, eqb, length, drop}
 use Rattle.error.specs.declared.Validation.{Validation}
-use Rattle.error.specs.declared.Check.{Check}
-use Rattle.error.specs.declared.Number.{Number}
+use Rattle.error.specs.Answer.{Check}
+use Rattle.error.specs.Answer.{Number}
 use Rattle.error.specs.Answer.{violation_of}
 use Rattle.error.specs.Demand.{Demand, ◌otherwise◌, passing, outcome, demands}
 use Rattle.error.specs.Reason as reason
@@ -60,4 +61,4 @@ catalog_key_demands key mode =
 
 -- 01, "Return classes": the first that fails answers; else the kind, 1 to 4
 unfoldable pub validate_catalog_key : List ℕ → Validation → Number
-validate_catalog_key key mode = outcome (catalog_key_demands key mode) Number.Refused (Number.Value (key_kind key))
+validate_catalog_key key mode = outcome (catalog_key_demands key mode) (Ok (key_kind key))

@@ -1,18 +1,15 @@
 // Records of the catalog: owner numbers, keys, timestamps, inodes, directory entries, extents. Document 01, section 5.
 #![tactic(auto)]
 
-ghost use Rattle.std.specs.Prelude.{◌≡◌, true, ◌≤◌, length};
-ghost use Rattle.error.specs.declared.Number.{Number as NumberOf};
-ghost use Rattle.error.specs.Demand.{outcome, demands};
-ghost use Rattle.volume.specs.Numbers.{sum_fits};
-ghost use Rattle.catalog.specs.Keys.{validate_owner_id, is_entry_key, is_catalog_key, validate_catalog_key};
-ghost use Rattle.catalog.specs.Times.{seconds_in_range, validate_timestamp_range, signed_number, validate_timestamp};
-ghost use Rattle.catalog.specs.Inode.{without_nul, too_long_of, is_target, validate_symlink_target, ends_right, flags_allowed, fields_in_range, fields_of_type, flags_and_reserved, inode_number_demands, target_check, validate_inode};
-ghost use Rattle.catalog.specs.Inside.{inode_fields, inode_times, inode_shape};
+ghost use Rattle.std.specs.Prelude.{◌≡◌, ◌≤◌, length};
+ghost use Rattle.catalog.specs.Keys.{validate_owner_id, is_catalog_key, validate_catalog_key};
+ghost use Rattle.catalog.specs.Times.{validate_timestamp_range, signed_number, validate_timestamp};
+ghost use Rattle.catalog.specs.Inode.{too_long_of, validate_symlink_target, flags_allowed, fields_in_range, fields_of_type, flags_and_reserved, target_check, validate_inode};
+ghost use Rattle.catalog.specs.Inside.{inode_fields, inode_shape};
 ghost use Rattle.catalog.specs.Entry.{is_entry_name, validate_directory_entry};
-ghost use Rattle.catalog.specs.Extent.{is_extent_range, extent_range_demands, validate_extent};
+ghost use Rattle.catalog.specs.Extent.{validate_extent};
 
-use error::{Check, Error, Number, Validation, reason};
+use error::{Error, Validation, reason};
 
 pub const MAX_FILE_BYTES: u64 = 0x7FFF_FFFF_FFFF_FFFF;
 
@@ -23,123 +20,83 @@ pub const MAX_LOGICAL_BLOCK: u64 = MAX_FILE_BYTES / 4096 + 1;
 pub const MAX_SYMLINK_TARGET: usize = 1023;
 
 // Check an object or job ID.
-pub fn validate_owner_id(owner: u64, mode: Validation) -> Check
+#[tactic(auto, unfolding(crate::specs::Keys::validate_owner_id, error::specs::Demand::outcome))]
+pub fn validate_owner_id(owner: u64, mode: Validation) -> Result<(), Error>
     ensures { result ≡ validate_owner_id owner mode }
 {
-    if owner < 1 {
-        return Check::Refused(error::violation(mode, reason::INVALID_OBJECT_ID));
+    if !(1..volume::MAX_ID).contains(&owner) {
+        return Err(error::violation(mode, reason::INVALID_OBJECT_ID));
     }
-    if volume::MAX_ID - 1 < owner {
-        return Check::Refused(error::violation(mode, reason::INVALID_OBJECT_ID));
-    }
-    Check::Passed
-}
-
-// Whether a key is a directory entry's: 1 to 765 bytes of UTF-8 after the kind.
-fn is_entry_key(key: &[u8]) -> bool
-    ensures { result ≡ is_entry_key key.now }
-{
-    if octets::byte_at(key, 8) != 2 {
-        return false;
-    }
-    if key.len() < 10 {
-        return false;
-    }
-    if 774 < key.len() {
-        return false;
-    }
-    utf8::is_utf8(&key[9..])
+    Ok(())
 }
 
 // Whether a key has the form that its kind asks for; only that form is tried.
+#[tactic(auto, unfolding(crate::specs::Keys::is_catalog_key))]
 fn is_catalog_key(key: &[u8]) -> bool
     ensures { result ≡ is_catalog_key key.now }
 {
-    let kind = octets::byte_at(key, 8);
-    if kind == 1 {
-        return key.len() == 9;
+    match octets::byte_at(key, 8) {
+        1 => key.len() == 9,
+        2 => (10..=774).contains(&key.len()) && utf8::is_utf8(&key[9..]),
+        3 | 4 => key.len() == 17,
+        _ => false,
     }
-    if kind == 2 {
-        return is_entry_key(key);
-    }
-    ((kind == 3) | (kind == 4)) & (key.len() == 17)
 }
 
 // Check a catalog key; the record's kind.
-pub fn validate_catalog_key(key: &[u8], mode: Validation) -> Number
+// Kept: a kind is the byte that is stored, as in the Rust; the theorem on accepted keys and READING-RULES 9.1 speak of that number.
+#[tactic(auto, unfolding(crate::specs::Keys::validate_catalog_key, error::specs::Demand::outcome))]
+pub fn validate_catalog_key(key: &[u8], mode: Validation) -> Result<u8, Error>
     ensures { result ≡ validate_catalog_key key.now mode }
 {
     if key.len() < 9 {
-        return Number::Refused(error::violation(mode, reason::CATALOG_KEY_IS_TOO_SHORT));
+        return Err(error::violation(mode, reason::CATALOG_KEY_IS_TOO_SHORT));
     }
-    if let Check::Refused(e) = validate_owner_id(octets::big_at(key, 0), mode) {
-        return Number::Refused(e);
-    }
+    validate_owner_id(octets::big_at(key, 0), mode)?;
     if !is_catalog_key(key) {
-        return Number::Refused(error::violation(mode, reason::INVALID_CATALOG_KEY));
+        return Err(error::violation(mode, reason::INVALID_CATALOG_KEY));
     }
-    Number::Value(octets::byte_at(key, 8) as u64)
-}
-
-fn seconds_in_range(seconds: i64) -> bool
-    ensures { result ≡ seconds_in_range seconds }
-{
-    (-11_644_473_600 <= seconds) & (seconds <= 253_402_300_799)
+    Ok(octets::byte_at(key, 8))
 }
 
 // Check a timestamp: seconds in the years 1601 through 9999, at most 999,999,999 nanoseconds.
-pub fn validate_timestamp_range(seconds: i64, nanos: u32, mode: Validation) -> Check
+#[tactic(auto, unfolding(crate::specs::Times::validate_timestamp_range, crate::specs::Times::seconds_in_range, error::specs::Demand::outcome))]
+pub fn validate_timestamp_range(seconds: i64, nanos: u32, mode: Validation) -> Result<(), Error>
     ensures { result ≡ validate_timestamp_range seconds nanos mode }
 {
-    if !seconds_in_range(seconds) {
-        return Check::Refused(error::violation(mode, reason::TIMESTAMP_SECONDS_OUT_OF_RANGE));
+    if !(-11_644_473_600..=253_402_300_799).contains(&seconds) {
+        return Err(error::violation(mode, reason::TIMESTAMP_SECONDS_OUT_OF_RANGE));
     }
     if 999_999_999 < nanos {
-        return Check::Refused(error::violation(mode, reason::TIMESTAMP_NANOSECONDS_OUT_OF_RANGE));
+        return Err(error::violation(mode, reason::TIMESTAMP_NANOSECONDS_OUT_OF_RANGE));
     }
-    Check::Passed
+    Ok(())
 }
 
 // A stored word as a signed number: two's complement.
+#[tactic(auto, unfolding(crate::specs::Times::signed_number))]
 pub fn signed_number(word: u64) -> i64
     ensures { result ≡ signed_number word }
 {
-    if word < 0x8000_0000_0000_0000 {
-        return word as i64;
-    }
-    -1 - (0xFFFF_FFFF_FFFF_FFFF - word) as i64
+    word.cast_signed()
 }
 
 // Check a stored timestamp: seconds, nanoseconds, four bytes of zero.
-fn validate_timestamp(value: &[u8], offset: usize, mode: Validation) -> Check
+#[tactic(auto, unfolding(crate::specs::Times::validate_timestamp, error::specs::Demand::outcome))]
+fn validate_timestamp(value: &[u8], offset: usize, mode: Validation) -> Result<(), Error>
     requires { offset ≤ 72 }
     ensures { result ≡ validate_timestamp value.now offset mode }
 {
     let seconds = signed_number(octets::u64_at(value, offset));
     let nanos = octets::u32_at(value, offset + 8);
-    let range = validate_timestamp_range(seconds, nanos, mode);
-    let Check::Passed = range else {
-        return range;
-    };
+    validate_timestamp_range(seconds, nanos, mode)?;
     if octets::u32_at(value, offset + 12) != 0 {
-        return Check::Refused(error::violation(mode, reason::TIMESTAMP_RESERVED_BYTES));
+        return Err(error::violation(mode, reason::TIMESTAMP_RESERVED_BYTES));
     }
-    Check::Passed
+    Ok(())
 }
 
-fn without_nul(bytes: &[u8]) -> bool
-    ensures { result ≡ without_nul bytes.now }
-{
-    let mut i = 0;
-    while i < bytes.len() {
-        if bytes[i] == 0 {
-            return false;
-        }
-        i += 1;
-    }
-    true
-}
-
+// The refusal of what is too long: class 6 in mode Input, class 3 in mode Disk.
 fn too_long(mode: Validation, reason: u16) -> Error
     ensures { result ≡ too_long_of mode reason }
 {
@@ -149,29 +106,18 @@ fn too_long(mode: Validation, reason: u16) -> Error
     }
 }
 
-fn is_target(target: &[u8]) -> bool
-    ensures { result ≡ is_target target.now }
-{
-    (target.len() != 0) & without_nul(target) & utf8::is_utf8(target)
-}
-
 // A symlink target is 1 to 1,023 bytes of UTF-8 without NUL.
-pub fn validate_symlink_target(target: &[u8], mode: Validation) -> Check
+#[tactic(auto, unfolding(crate::specs::Inode::validate_symlink_target, crate::specs::Inode::is_target, error::specs::Demand::outcome))]
+pub fn validate_symlink_target(target: &[u8], mode: Validation) -> Result<(), Error>
     ensures { result ≡ validate_symlink_target target.now mode }
 {
     if MAX_SYMLINK_TARGET < target.len() {
-        return Check::Refused(too_long(mode, reason::SYMLINK_TARGET_IS_TOO_LONG));
+        return Err(too_long(mode, reason::SYMLINK_TARGET_IS_TOO_LONG));
     }
-    if !is_target(target) {
-        return Check::Refused(error::violation(mode, reason::INVALID_SYMLINK_TARGET));
+    if target.is_empty() || target.contains(&0) || !utf8::is_utf8(target) {
+        return Err(error::violation(mode, reason::INVALID_SYMLINK_TARGET));
     }
-    Check::Passed
-}
-
-fn ends_right(kind: u8, len: usize) -> bool
-    ensures { result ≡ ends_right kind len }
-{
-    (kind == 3) | (len == 128)
+    Ok(())
 }
 
 // Bit 0 marks an orphan. Only a symlink may set bit 1, its kind on Windows is recorded, and then bit 2, that kind is directory. No other bit is set.
@@ -183,236 +129,188 @@ fn flags_allowed(kind: u8, flags: u8) -> bool
         & ((flags / 4 % 2 == 0) | (flags / 2 % 2 == 1))
 }
 
-fn flags_and_reserved(value: &[u8]) -> bool
-    requires { 128 ≤ length value.now }
-    ensures { result ≡ flags_and_reserved value.now }
-{
-    flags_allowed(value[0], value[1])
-        & octets::all_zero(&value[2..8])
-        & octets::all_zero(&value[88..128])
-}
-
-fn fields_in_range(size: u64, allocated: u64, children: u64, blocks: u64) -> bool
-    ensures { result ≡ fields_in_range size allocated children blocks }
-{
-    (size <= MAX_FILE_BYTES) & (allocated <= blocks) & (children <= volume::MAX_ID)
-}
-
-// What the type says of the numbers; target is the length of what follows the 128 bytes.
-fn fields_of_type(kind: u8, target: u64, size: u64, allocated: u64, children: u64) -> bool
-    ensures { result ≡ fields_of_type kind target size allocated children }
-{
-    (!(kind == 2) | (size == 0) & (allocated == 0))
-        & (!(kind == 1) | (children == 0))
-        & (!(kind == 3) | (allocated == 0) & (children == 0) & (size == target))
-}
-
-fn inode_numbers(
+// The numbers of an inode. Target is the length of what follows its 128 bytes.
+#[derive(Clone, Copy)]
+struct Numbers {
+    // Kept: the byte that is stored; another kind than 1 to 3 was refused before.
     kind: u8,
     target: u64,
     size: u64,
     allocated: u64,
     children: u64,
-    blocks: u64,
-    mode: Validation,
-) -> Check
-    ensures { result ≡ demands (inode_number_demands kind target size allocated children blocks mode) }
-{
-    if !fields_in_range(size, allocated, children, blocks) {
-        return Check::Refused(error::violation(mode, reason::INODE_RANGE));
+}
+
+impl Numbers {
+    // Whether they are within their ranges.
+    #[tactic(auto, unfolding(crate::specs::Inode::fields_in_range))]
+    fn in_range(&self, blocks: u64) -> bool
+        ensures { result ≡ fields_in_range self.now.size self.now.allocated self.now.children blocks }
+    {
+        self.size <= MAX_FILE_BYTES && self.allocated <= blocks && self.children <= volume::MAX_ID
     }
-    if !fields_of_type(kind, target, size, allocated, children) {
-        return Check::Refused(error::violation(mode, reason::INODE_TYPE_SPECIFIC_FIELDS));
+
+    // What the type says of the others.
+    #[tactic(auto, unfolding(crate::specs::Inode::fields_of_type))]
+    fn of_type(&self) -> bool
+        ensures { result ≡ fields_of_type self.now.kind self.now.target self.now.size self.now.allocated self.now.children }
+    {
+        match self.kind {
+            1 => self.children == 0,
+            2 => self.size == 0 && self.allocated == 0,
+            3 => self.allocated == 0 && self.children == 0 && self.size == self.target,
+            _ => true,
+        }
     }
-    Check::Passed
 }
 
-fn inode_fields(value: &[u8], blocks: u64, mode: Validation) -> Check
-    requires { 128 ≤ length value.now }
-    ensures { result ≡ inode_fields value.now blocks mode }
-{
-    let parent = validate_owner_id(octets::u64_at(value, 8), mode);
-    let Check::Passed = parent else {
-        return parent;
-    };
-    let target = (value.len() - 128) as u64;
-    let size = octets::u64_at(value, 16);
-    let allocated = octets::u64_at(value, 24);
-    let children = octets::u64_at(value, 32);
-    inode_numbers(value[0], target, size, allocated, children, blocks, mode)
-}
-
-// The target of a symlink; other inodes have none.
-fn target_check(value: &[u8], mode: Validation) -> Check
-    requires { 128 ≤ length value.now }
-    ensures { result ≡ target_check value.now mode }
-{
-    if value[0] == 3 {
-        return validate_symlink_target(&value[128..], mode);
-    }
-    Check::Passed
-}
-
-fn inode_times(value: &[u8], mode: Validation) -> Check
-    ensures { result ≡ inode_times value.now mode }
-{
-    let first = validate_timestamp(value, 40, mode);
-    let Check::Passed = first else {
-        return first;
-    };
-    let second = validate_timestamp(value, 56, mode);
-    let Check::Passed = second else {
-        return second;
-    };
-    validate_timestamp(value, 72, mode)
-}
-
-fn inode_shape(value: &[u8], mode: Validation) -> Check
+// Check an inode's type and length.
+#[tactic(auto, unfolding(crate::specs::Inside::inode_shape, error::specs::Demand::outcome))]
+fn inode_shape(value: &[u8], mode: Validation) -> Result<(), Error>
     ensures { result ≡ inode_shape value.now mode }
 {
-    if value.len() == 0 {
-        return Check::Refused(error::violation(mode, reason::INVALID_INODE_LENGTH));
+    if value.is_empty() {
+        return Err(error::violation(mode, reason::INVALID_INODE_LENGTH));
     }
-    let kind = value[0];
-    if kind < 1 {
-        return Check::Refused(error::violation(mode, reason::INVALID_INODE_TYPE));
+    if !(1..=3).contains(&value[0]) {
+        return Err(error::violation(mode, reason::INVALID_INODE_TYPE));
     }
-    if 3 < kind {
-        return Check::Refused(error::violation(mode, reason::INVALID_INODE_TYPE));
+    if value.len() < 128 || (value[0] != 3 && value.len() != 128) {
+        return Err(error::violation(mode, reason::INVALID_INODE_LENGTH));
     }
-    if value.len() < 128 {
-        return Check::Refused(error::violation(mode, reason::INVALID_INODE_LENGTH));
+    Ok(())
+}
+
+// An inode's value: 128 bytes at least.
+#[derive(Clone, Copy)]
+struct Inode<'a> {
+    value: &'a [u8],
+    ghost long: { 128 ≤ length value.now },
+}
+
+impl Inode<'_> {
+    // Whether the flags are allowed and the reserved bytes are zero.
+    #[tactic(auto, unfolding(crate::specs::Inode::flags_and_reserved))]
+    fn flags_and_reserved(&self) -> bool
+        ensures { result ≡ flags_and_reserved self.now.value.now }
+    {
+        flags_allowed(self.value[0], self.value[1])
+            && octets::all_zero(&self.value[2..8])
+            && octets::all_zero(&self.value[88..128])
     }
-    if !ends_right(kind, value.len()) {
-        return Check::Refused(error::violation(mode, reason::INVALID_INODE_LENGTH));
+
+    // Check the parent and the numbers.
+    #[tactic(auto, unfolding(crate::specs::Inside::inode_fields, error::specs::Demand::outcome))]
+    fn fields(&self, blocks: u64, mode: Validation) -> Result<(), Error>
+        ensures { result ≡ inode_fields self.now.value.now blocks mode }
+    {
+        validate_owner_id(octets::u64_at(self.value, 8), mode)?;
+        let numbers = Numbers {
+            kind: self.value[0],
+            target: (self.value.len() - 128) as u64,
+            size: octets::u64_at(self.value, 16),
+            allocated: octets::u64_at(self.value, 24),
+            children: octets::u64_at(self.value, 32),
+        };
+        if !numbers.in_range(blocks) {
+            return Err(error::violation(mode, reason::INODE_RANGE));
+        }
+        if !numbers.of_type() {
+            return Err(error::violation(mode, reason::INODE_TYPE_SPECIFIC_FIELDS));
+        }
+        Ok(())
     }
-    Check::Passed
+
+    // The target of a symlink; other inodes have none.
+    #[tactic(auto, unfolding(crate::specs::Inode::target_check))]
+    fn target_check(&self, mode: Validation) -> Result<(), Error>
+        ensures { result ≡ target_check self.now.value.now mode }
+    {
+        if self.value[0] == 3 {
+            return validate_symlink_target(&self.value[128..], mode);
+        }
+        Ok(())
+    }
 }
 
 // Check an inode record value.
-pub fn validate_inode(value: &[u8], blocks: u64, mode: Validation) -> Check
+#[tactic(auto, using(crate::proofs::Inodes::shape_long, crate::proofs::Inodes::inode_flat), unfolding(error::specs::Demand::outcome))]
+pub fn validate_inode(value: &[u8], blocks: u64, mode: Validation) -> Result<(), Error>
     ensures { result ≡ validate_inode value.now blocks mode }
 {
-    let shape = inode_shape(value, mode);
-    let Check::Passed = shape else {
-        return shape;
-    };
-    if !flags_and_reserved(value) {
-        return Check::Refused(error::violation(
-            mode,
-            reason::INVALID_INODE_FLAGS_OR_RESERVED_BYTES,
-        ));
+    inode_shape(value, mode)?;
+    let inode = Inode { value };
+    if !inode.flags_and_reserved() {
+        return Err(error::violation(mode, reason::INVALID_INODE_FLAGS_OR_RESERVED_BYTES));
     }
-    let fields = inode_fields(value, blocks, mode);
-    let Check::Passed = fields else {
-        return fields;
-    };
-    let target = target_check(value, mode);
-    let Check::Passed = target else {
-        return target;
-    };
-    inode_times(value, mode)
+    inode.fields(blocks, mode)?;
+    inode.target_check(mode)?;
+    validate_timestamp(value, 40, mode)?;
+    validate_timestamp(value, 56, mode)?;
+    validate_timestamp(value, 72, mode)
 }
 
+// Whether a name of 1 to 255 bytes of UTF-8 ends the value.
+#[tactic(auto, unfolding(crate::specs::Entry::is_entry_name))]
 fn is_entry_name(value: &[u8]) -> bool
     requires { 12 ≤ length value.now }
     ensures { result ≡ is_entry_name value.now }
 {
-    let n = octets::u16_at(value, 10) as usize;
-    if n < 1 {
-        return false;
-    }
-    if 255 < n {
-        return false;
-    }
-    if value.len() != 12 + n {
-        return false;
-    }
-    utf8::is_utf8(&value[12..])
+    let n = usize::from(octets::u16_at(value, 10));
+    (1..=255).contains(&n) && value.len() == 12 + n && utf8::is_utf8(&value[12..])
 }
 
 // Check a directory-entry record value.
-pub fn validate_directory_entry(value: &[u8], mode: Validation) -> Check
+#[tactic(auto, unfolding(crate::specs::Entry::validate_directory_entry, error::specs::Demand::outcome))]
+pub fn validate_directory_entry(value: &[u8], mode: Validation) -> Result<(), Error>
     ensures { result ≡ validate_directory_entry value.now mode }
 {
     if value.len() < 12 {
-        return Check::Refused(error::violation(mode, reason::DIRECTORY_ENTRY_IS_TOO_SHORT));
+        return Err(error::violation(mode, reason::DIRECTORY_ENTRY_IS_TOO_SHORT));
     }
-    let target = validate_owner_id(octets::u64_at(value, 0), mode);
-    let Check::Passed = target else {
-        return target;
-    };
-    if value[8] < 1 {
-        return Check::Refused(error::violation(mode, reason::INVALID_DIRECTORY_ENTRY_TYPE));
-    }
-    if 3 < value[8] {
-        return Check::Refused(error::violation(mode, reason::INVALID_DIRECTORY_ENTRY_TYPE));
+    validate_owner_id(octets::u64_at(value, 0), mode)?;
+    if !(1..=3).contains(&value[8]) {
+        return Err(error::violation(mode, reason::INVALID_DIRECTORY_ENTRY_TYPE));
     }
     if value[9] != 0 {
-        return Check::Refused(error::violation(mode, reason::DIRECTORY_ENTRY_RESERVED_BYTE));
+        return Err(error::violation(mode, reason::DIRECTORY_ENTRY_RESERVED_BYTE));
     }
     if !is_entry_name(value) {
-        return Check::Refused(error::violation(mode, reason::INVALID_DIRECTORY_ENTRY_NAME));
+        return Err(error::violation(mode, reason::INVALID_DIRECTORY_ENTRY_NAME));
     }
-    Check::Passed
-}
-
-fn is_extent_range(logical: u64, physical: u64, count: u64, reserved: u32, blocks: u64) -> bool
-    requires { sum_fits logical count ≡ true }
-    ensures { result ≡ is_extent_range logical physical count reserved blocks }
-{
-    if count == 0 {
-        return false;
-    }
-    if reserved != 0 {
-        return false;
-    }
-    if MAX_LOGICAL_BLOCK < logical + count {
-        return false;
-    }
-    volume::is_nonreserved_run(physical, count, blocks)
-}
-
-// The three refusals of an extent's range, over its fields; else its count.
-fn extent_range(
-    logical: u64,
-    physical: u64,
-    count: u64,
-    reserved: u32,
-    blocks: u64,
-    mode: Validation,
-) -> Number
-    ensures { result ≡ outcome (extent_range_demands logical physical count reserved blocks mode) NumberOf.Refused (NumberOf.Value count) }
-{
-    if !volume::sum_fits(physical, count) {
-        return Number::Refused(error::violation(mode, reason::EXTENT_PHYSICAL_RANGE));
-    }
-    if !volume::sum_fits(logical, count) {
-        return Number::Refused(error::violation(mode, reason::EXTENT_LOGICAL_RANGE));
-    }
-    if !is_extent_range(logical, physical, count, reserved, blocks) {
-        return Number::Refused(error::violation(mode, reason::INVALID_EXTENT_RANGE));
-    }
-    Number::Value(count)
+    Ok(())
 }
 
 // Check an extent record, first that its key has 17 bytes; its block count.
-pub fn validate_extent(key: &[u8], value: &[u8], blocks: u64, mode: Validation) -> Number
+#[tactic(auto, unfolding(crate::specs::Extent::validate_extent, crate::specs::Extent::is_extent_range, error::specs::Demand::outcome))]
+pub fn validate_extent(
+    key: &[u8],
+    value: &[u8],
+    blocks: u64,
+    mode: Validation,
+) -> Result<u64, Error>
     ensures { result ≡ validate_extent key.now value.now blocks mode }
 {
     if key.len() < 17 {
-        return Number::Refused(error::violation(mode, reason::INVALID_CATALOG_KEY));
+        return Err(error::violation(mode, reason::INVALID_CATALOG_KEY));
     }
     if value.len() != 16 {
-        return Number::Refused(error::violation(mode, reason::INVALID_EXTENT_LENGTH));
+        return Err(error::violation(mode, reason::INVALID_EXTENT_LENGTH));
     }
-    let count = octets::u32_at(value, 8) as u64;
-    extent_range(
-        octets::big_at(key, 9),
-        octets::u64_at(value, 0),
-        count,
-        octets::u32_at(value, 12),
-        blocks,
-        mode,
-    )
+    let logical = octets::big_at(key, 9);
+    let physical = octets::u64_at(value, 0);
+    let count = u64::from(octets::u32_at(value, 8));
+    if !volume::sum_fits(physical, count) {
+        return Err(error::violation(mode, reason::EXTENT_PHYSICAL_RANGE));
+    }
+    if !volume::sum_fits(logical, count) {
+        return Err(error::violation(mode, reason::EXTENT_LOGICAL_RANGE));
+    }
+    if count == 0
+        || octets::u32_at(value, 12) != 0
+        || MAX_LOGICAL_BLOCK < logical + count
+        || !volume::is_nonreserved_run(physical, count, blocks)
+    {
+        return Err(error::violation(mode, reason::INVALID_EXTENT_RANGE));
+    }
+    Ok(count)
 }

@@ -3,17 +3,15 @@ use Prim.Native.Nat.{ℕ, zero, suc}
 use mathlib.Core.Path.{◌≡◌, refl}
 use mathlib.Core.Bool.{Bool, true, false, ◌&&◌, ◌||◌, cond}
 use mathlib.Core.List.{List, [], ◌∷◌}
-use lib.Dec.{leb, eqb}
+use lib.Dec.{eqb}
 use lib.IntN.{ℤ}
 use lib.ListN.{length}
 use Rattle.error.specs.declared.Error.{Error}
 use Rattle.error.specs.declared.Error.TheVariants.{InvalidGeometry, InvalidInput, Corrupt, UnsupportedFormat}
 use Rattle.error.specs.declared.Validation.{Validation}
 use Rattle.error.specs.declared.Validation.TheVariants.{Input, Disk}
-use Rattle.error.specs.declared.Check.{Check}
-use Rattle.error.specs.declared.Check.TheVariants.{Passed, Refused}
-use Rattle.error.specs.declared.Number.{Number}
-use Rattle.error.specs.Answer.{class_of, reason_of, check_class, check_reason, number_of, violation_of}
+use Rattle.std.specs.Prelude.{Option, Some, None, Result, Ok, Err}
+use Rattle.error.specs.Answer.{Number, class_of, reason_of, check_class, check_reason, number_check, number_of, violation_of}
 use Rattle.error.specs.Demand.{Demand, refusal_of, outcome, demands}
 use Rattle.error.specs.Reason as reason
 use Rattle.error.proofs.Tests.{and_right}
@@ -21,15 +19,12 @@ use Rattle.volume.specs.declared.TreeRef.{TreeRef}
 use Rattle.volume.specs.declared.TreeKind.{TreeKind}
 use Rattle.volume.specs.References.{validate_blocks, tree_ref_demands, validate_tree_ref, workspace_ref_demands, validate_workspace_ref, validate_page_ref, root_slot_demands, validate_root_slot, validate_uuid}
 use Rattle.volume.specs.Groups.{groups_of, allocation_group_count}
-use Rattle.group.specs.declared.Slot.{Slot}
-use Rattle.group.specs.Group.{present, word, slot_demands, checksum_slot, group_demands, validate_checksum_group}
-use Rattle.group.specs.Slots.{slot_class, slot_reason}
+use Rattle.group.specs.Group.{slot_demands, checksum_slot, group_demands, validate_checksum_group}
 use Rattle.catalog.specs.Keys.{key_kind, owner_demands, validate_owner_id, catalog_key_demands, validate_catalog_key}
 use Rattle.catalog.specs.Times.{timestamp_range_demands, validate_timestamp_range, timestamp_demands, validate_timestamp}
 use Rattle.catalog.specs.Inode.{too_long_of, inode_type, inode_target, symlink_target_demands, validate_symlink_target, target_check, inode_demands, validate_inode}
 use Rattle.catalog.specs.Entry.{directory_entry_demands, validate_directory_entry}
 use Rattle.catalog.specs.Extent.{extent_count, extent_demands, validate_extent}
-use Rattle.record.specs.declared.Child.{Child}
 use Rattle.record.specs.Allocation.{group_index_demands, validate_group_index, allocation_group_demands, validate_allocation_group}
 use Rattle.record.specs.Cleanup.{cleanup_kind, cleanup_number, cleanup_block, retirement_demands, validate_retirement, detached_tree_demands, validate_detached_tree, orphan_marker_demands, validate_orphan_marker, cleanup_record, cleanup_demands, validate_cleanup_key_value}
 use Rattle.record.specs.Workspace.{workspace_key_demands, validate_workspace_key, workspace_run_demands, validate_workspace_run}
@@ -38,23 +33,16 @@ use Rattle.record.specs.Leaf.{uncounted_record, catalog_record, leaf_demands, le
 use Rattle.lookup.specs.Record.{key_of, value_of}
 use Rattle.walk.specs.declared.RecordValidation.{RecordValidation}
 use Rattle.walk.specs.Records.{form_demands, form_check, Own, leaf_rules, child_rules, own_answer, join_demands, join_check, record_demands, walk, size_demands, records, is_leaf, own_rules, validate_records}
-use Rattle.page.specs.declared.Expected.{Expected}
-use Rattle.page.specs.declared.Page.{Page}
 use Rattle.page.specs.Header.{caller_demands, check_caller, format_demands, check_format, kind_demands, check_kind, identity_demands, check_identity, header_demands, validate_page_header}
-use Rattle.page.specs.Page.{validate_page_records, content_demands, check_content, page_demands, refused_page, accepted_page, decode_page}
+use Rattle.page.specs.Page.{validate_page_records, content_demands, check_content, page_demands, accepted_page, decode_page}
 use Rattle.page.specs.Unchecked.{verified_demands, verified_page_view, draft_demands, draft_numbers, draft_page_view}
-use Rattle.root.specs.declared.NewLabel.{NewLabel}
 use Rattle.root.specs.declared.Root.{Root}
-use Rattle.root.specs.declared.Decoded.{Decoded}
-use Rattle.root.specs.declared.MaybeRoot.{MaybeRoot}
-use Rattle.root.specs.declared.Supported.{Supported}
-use Rattle.root.specs.declared.Selected.{Selected}
 use Rattle.root.specs.Label.{label_demands, label_new}
 use Rattle.root.specs.Fields.{general_demands, check_general, refs_demands, check_refs, workspace_demands, check_workspace, trees_demands, check_trees, numbers_demands, check_numbers, field_demands, validate_root_fields}
 use Rattle.root.specs.Root as root
-use Rattle.root.specs.Root.{root_of, place_demands, check_place, envelope_demands, check_envelope, text_demands, check_text, label_field_demands, check_label, block_demands, check_block, root_refused, root_demands, root_decode}
-use Rattle.root.specs.Select.{selection, selection_refused, pair_demands, select_pair, select_by, select_root, one_root, none, supported_root, choice_demands, choose_root}
-use Rattle.claims.specs.Answers.{is_reason, is_answer, is_in, is_answer_in, AnswersIn, Answers, NumberAnswersIn, NumberAnswers, PageAnswers, Demand1}
+use Rattle.root.specs.Root.{root_of, place_demands, check_place, envelope_demands, check_envelope, text_demands, check_text, label_field_demands, check_label, block_demands, check_block, root_demands, root_decode}
+use Rattle.root.specs.Select.{pair_demands, select_pair, select_root, supported_root, choose_root}
+use Rattle.claims.specs.Answers.{is_reason, is_answer, is_in, is_answer_in, AnswersIn, Answers, Demand1}
 
 -- ---- lists of demands
 
@@ -64,12 +52,12 @@ Every Q [] = Unit
 Every Q (d ∷ ds) = Q d.refusal × Every Q ds
 
 -- what holds of each refusal, and of the result, holds of what a list answers
-pub ends : {A : Type 0} (Q : Error → Type 0) (P : A → Type 0) (refused : Error → A) (accepted : A) → ((e : Error) → Q e → P (refused e)) → P accepted → (ds : List Demand) → Every Q ds → P (outcome ds refused accepted)
+pub ends : {A : Type 0} (Q : Error → Type 0) (P : Result A Error → Type 0) (accepted : Result A Error) → ((e : Error) → Q e → P (Err e)) → P accepted → (ds : List Demand) → Every Q ds → P (outcome ds accepted)
 unfolding outcome
-ends Q P refused accepted r a [] h = a
-ends Q P refused accepted r a (d ∷ ds) h = go d.test (ends Q P refused accepted r a ds h.1)
+ends Q P accepted r a [] h = a
+ends Q P accepted r a (d ∷ ds) h = go d.test (ends Q P accepted r a ds h.1)
   where
-    go : (b : Bool) → P (outcome ds refused accepted) → P (cond b (outcome ds refused accepted) (refused d.refusal))
+    go : (b : Bool) → P (outcome ds accepted) → P (cond b (outcome ds accepted) (Err d.refusal))
     go true k = k
     go false k = r d.refusal h.0
 
@@ -77,24 +65,25 @@ ends Q P refused accepted r a (d ∷ ds) h = go d.test (ends Q P refused accepte
 record Good (mode : Validation) (e : Error) : Type 0 where
   told : is_answer_in mode (class_of e) (reason_of e) ≡ true
 
-passing_answers : {mode : Validation} → AnswersIn mode Passed
-passing_answers {mode} = go mode
+passing_answers : {A : Type 0} {mode : Validation} {a : A} → AnswersIn mode (Ok a)
+passing_answers {A} {mode} {a} = go mode
   where
-    go : (mode : Validation) → AnswersIn mode Passed
+    go : (mode : Validation) → AnswersIn {A = A} mode (Ok a)
     go Input = record { told = refl }
     go Disk = record { told = refl }
 
-refused_answers : {mode : Validation} (e : Error) → Good mode e → AnswersIn mode (Refused e)
+refused_answers : {A : Type 0} {mode : Validation} (e : Error) → Good mode e → AnswersIn {A = A} mode (Err e)
 refused_answers e g = record { told = g.told }
 
+-- a list of demands answers so, where what it gives does
+numbered : {A : Type 0} {mode : Validation} (r : Result A Error) → AnswersIn mode r → (ds : List Demand) → Every (Good mode) ds → AnswersIn mode (outcome ds r)
+numbered {A} {mode} r a = ends (Good mode) (AnswersIn mode) r refused_answers a
+
+valued : {A : Type 0} {mode : Validation} (n : A) (ds : List Demand) → Every (Good mode) ds → AnswersIn mode (outcome ds (Ok n))
+valued n = numbered (Ok n) passing_answers
+
 listed : {mode : Validation} (ds : List Demand) → Every (Good mode) ds → AnswersIn mode (demands ds)
-listed {mode} = ends (Good mode) (AnswersIn mode) Refused Passed refused_answers passing_answers
-
-numbered : {mode : Validation} (r : Number) → NumberAnswersIn mode r → (ds : List Demand) → Every (Good mode) ds → NumberAnswersIn mode (outcome ds Number.Refused r)
-numbered {mode} r a = ends (Good mode) (NumberAnswersIn mode) Number.Refused r refused_answers a
-
-valued : {mode : Validation} (n : ℕ) (ds : List Demand) → Every (Good mode) ds → NumberAnswersIn mode (outcome ds Number.Refused (Number.Value n))
-valued n = numbered (Number.Value n) passing_answers
+listed = valued tt
 
 -- a violation in either mode
 violated : (mode : Validation) (r : ℕ) → is_reason r ≡ true → Good mode (violation_of mode r)
@@ -121,23 +110,31 @@ geometry : Good Input InvalidGeometry
 geometry = record { told = refl }
 
 -- a check that is one demand of a longer chain
-passed_on : (mode : Validation) (c : Check) → AnswersIn mode c → Good mode (refusal_of c)
-passed_on mode Passed h = unsupported mode
-passed_on mode (Refused e) h = record { told = h.told }
+passed_on : {A : Type 0} (mode : Validation) (c : Result A Error) → AnswersIn mode c → Good mode (refusal_of c)
+passed_on mode (Ok a) h = unsupported mode
+passed_on mode (Err e) h = record { told = h.told }
 
 -- one of mode Disk, in a chain that holds other answers too
-weaker : {c : Check} → AnswersIn Disk c → Answers c
-weaker {c} h = record { told = and_right (is_in Disk (check_class c)) (is_answer (check_class c) (check_reason c)) h.told }
+weaker : {A : Type 0} {c : Result A Error} → AnswersIn Disk c → Answers c
+weaker {A} {c} h = record { told = and_right (is_in Disk (check_class c)) (is_answer (check_class c) (check_reason c)) h.told }
 
-disk_passed_on : (c : Check) → AnswersIn Disk c → Good Input (refusal_of c)
+disk_passed_on : {A : Type 0} (c : Result A Error) → AnswersIn Disk c → Good Input (refusal_of c)
 disk_passed_on c h = passed_on Input c (weaker h)
 
 ruleset good = (violated, too_long, corrupt, unsupported, input, geometry, passed_on, disk_passed_on)
 
 -- one of two
-either : {mode : Validation} (b : Bool) (c d : Check) → AnswersIn mode c → AnswersIn mode d → AnswersIn mode (cond b c d)
+either : {A : Type 0} {mode : Validation} (b : Bool) (c d : Result A Error) → AnswersIn mode c → AnswersIn mode d → AnswersIn mode (cond b c d)
 either true c d p q = p
 either false c d p q = q
+
+-- a check that gives a number, as a check alone
+as_check : {mode : Validation} {n : Number} → AnswersIn mode n → AnswersIn mode (number_check n)
+as_check {mode} {n} = go n
+  where
+    go : (n : Number) → AnswersIn mode n → AnswersIn mode (number_check n)
+    go (Ok k) h = passing_answers
+    go (Err e) h = record { told = h.told }
 
 -- ---- section 2
 blocks_answers : (blocks : ℕ) (mode : Validation) → AnswersIn mode (validate_blocks blocks mode)
@@ -166,7 +163,7 @@ uuid_answers : (uuid : List ℕ) (mode : Validation) → AnswersIn mode (validat
 unfolding validate_uuid
 uuid_answers uuid mode = listed (_ ∷ []) (search good)
 
-count_answers : (blocks : ℕ) → NumberAnswers (allocation_group_count blocks)
+count_answers : (blocks : ℕ) → Answers (allocation_group_count blocks)
 unfolding allocation_group_count
 count_answers blocks = valued (groups_of blocks) (_ ∷ []) (search good)
 
@@ -175,7 +172,7 @@ owner_answers : (owner : ℕ) (mode : Validation) → AnswersIn mode (validate_o
 unfolding validate_owner_id
 owner_answers owner mode = listed (owner_demands owner mode) (search good)
 
-key_answers : (key : List ℕ) (mode : Validation) → NumberAnswersIn mode (validate_catalog_key key mode)
+key_answers : (key : List ℕ) (mode : Validation) → AnswersIn mode (validate_catalog_key key mode)
 unfolding validate_catalog_key
 key_answers key mode = valued (key_kind key) (catalog_key_demands key mode) (search (good, owner_answers))
 
@@ -193,7 +190,7 @@ symlink_answers target mode = listed (symlink_target_demands target mode) (searc
 
 target_answers : (value : List ℕ) (mode : Validation) → AnswersIn mode (target_check value mode)
 unfolding target_check
-target_answers value mode = either (eqb (inode_type value) 3) (validate_symlink_target (inode_target value) mode) Passed (symlink_answers (inode_target value) mode) passing_answers
+target_answers value mode = either (eqb (inode_type value) 3) (validate_symlink_target (inode_target value) mode) (Ok tt) (symlink_answers (inode_target value) mode) passing_answers
 
 inode_answers : (value : List ℕ) (blocks : ℕ) (mode : Validation) → AnswersIn mode (validate_inode value blocks mode)
 unfolding validate_inode
@@ -203,7 +200,7 @@ entry_answers : (value : List ℕ) (mode : Validation) → AnswersIn mode (valid
 unfolding validate_directory_entry
 entry_answers value mode = listed (directory_entry_demands value mode) (search (good, owner_answers))
 
-extent_answers : (key value : List ℕ) (blocks : ℕ) (mode : Validation) → NumberAnswersIn mode (validate_extent key value blocks mode)
+extent_answers : (key value : List ℕ) (blocks : ℕ) (mode : Validation) → AnswersIn mode (validate_extent key value blocks mode)
 unfolding validate_extent
 extent_answers key value blocks mode = valued (extent_count value) (extent_demands key value blocks mode) (search good)
 
@@ -212,13 +209,9 @@ group_answers : (key value : List ℕ) (mode : Validation) → AnswersIn mode (v
 unfolding validate_checksum_group
 group_answers key value mode = listed (group_demands key value mode) (search good)
 
-slot_told : (g : List ℕ) (s : ℕ) → is_answer (slot_class (checksum_slot g s)) (slot_reason (checksum_slot g s)) ≡ true
+slot_told : (g : List ℕ) (s : ℕ) → Answers (checksum_slot g s)
 unfolding checksum_slot
-slot_told g s = ends (Good Input) (λ (x : Slot). is_answer (slot_class x) (slot_reason x) ≡ true) Slot.Refused (cond (present g s) (Slot.Word (word g s)) Slot.Hole) (λ e h. h.told) (go (present g s)) (slot_demands g s) (search good)
-  where
-    go : (b : Bool) → is_answer (slot_class (cond b (Slot.Word (word g s)) Slot.Hole)) (slot_reason (cond b (Slot.Word (word g s)) Slot.Hole)) ≡ true
-    go true = refl
-    go false = refl
+slot_told g s = valued _ (slot_demands g s) (search good)
 
 -- ---- section 5, records of every tree
 index_answers : (group blocks uncounted outside : ℕ) (mode : Validation) → is_reason uncounted ≡ true → is_reason outside ≡ true → AnswersIn mode (validate_group_index group blocks uncounted outside mode)
@@ -272,20 +265,24 @@ cleanup_key_answers : (key : List ℕ) (blocks generation : ℕ) (mode : Validat
 unfolding cleanup_internal_key
 cleanup_key_answers key blocks generation mode =
     either (eqb (cleanup_kind key) 1 && eqb (length key) 17) _ _ (retirement_key_answers (cleanup_number key) (cleanup_block key) blocks generation mode)
-    (either ((eqb (cleanup_kind key) 2 || eqb (cleanup_kind key) 3) && eqb (length key) 9) _ (Refused (violation_of mode reason.invalid_cleanup_internal_key)) (owner_answers (cleanup_number key) mode)
+    (either ((eqb (cleanup_kind key) 2 || eqb (cleanup_kind key) 3) && eqb (length key) 9) _ (Err (violation_of mode reason.invalid_cleanup_internal_key)) (owner_answers (cleanup_number key) mode)
     (refused_answers _ (violated mode reason.invalid_cleanup_internal_key refl)))
 
 internal_key_answers : (kind : TreeKind) (key : List ℕ) (blocks generation : ℕ) (mode : Validation) → AnswersIn mode (internal_key kind key blocks generation mode)
 unfolding internal_key
-internal_key_answers TreeKind.Catalog key blocks generation mode = key_answers key mode
+internal_key_answers TreeKind.Catalog key blocks generation mode = as_check (key_answers key mode)
 internal_key_answers TreeKind.Allocation key blocks generation mode = allocation_key_answers key blocks mode
 internal_key_answers TreeKind.Cleanup key blocks generation mode = cleanup_key_answers key blocks generation mode
 internal_key_answers TreeKind.Workspace key blocks generation mode = run_key_answers key blocks mode
 
-child_answers : (kind : TreeKind) (key value : List ℕ) (blocks generation : ℕ) (mode : Validation) → NumberAnswersIn mode (child_block (validate_internal_record kind key value blocks generation mode))
+child_answers : (kind : TreeKind) (key value : List ℕ) (blocks generation : ℕ) (mode : Validation) → AnswersIn mode (validate_internal_record kind key value blocks generation mode)
 unfolding validate_internal_record
-child_answers kind key value blocks generation mode =
-    ends (Good mode) (λ (c : Child). NumberAnswersIn mode (child_block c)) Child.Refused (Child.Reference (child_ref value)) refused_answers passing_answers (internal_demands kind key value blocks generation mode) (search (good, internal_key_answers, page_ref_answers))
+child_answers kind key value blocks generation mode = valued (child_ref value) (internal_demands kind key value blocks generation mode) (search (good, internal_key_answers, page_ref_answers))
+
+-- a child's block is answered where the child is
+block_told : (mode : Validation) (c : Result TreeRef Error) → AnswersIn mode c → AnswersIn mode (child_block c)
+block_told mode (Ok r) h = passing_answers
+block_told mode (Err e) h = record { told = h.told }
 
 uncounted_answers : (key value : List ℕ) (blocks : ℕ) (mode : Validation) → AnswersIn mode (uncounted_record key value blocks mode)
 unfolding uncounted_record
@@ -295,9 +292,9 @@ uncounted_answers key value blocks mode =
     (either (eqb (key_kind key) 4) _ _ (group_answers key value mode) (refused_answers _ (violated mode reason.unknown_catalog_record_kind refl))))
 
 catalog_answers : (key value : List ℕ) (blocks : ℕ) (mode : Validation) → AnswersIn mode (catalog_record key value blocks mode)
-catalog_answers key value blocks mode = either (eqb (key_kind key) 3) _ _ (extent_answers key value blocks mode) (uncounted_answers key value blocks mode)
+catalog_answers key value blocks mode = either (eqb (key_kind key) 3) _ _ (as_check (extent_answers key value blocks mode)) (uncounted_answers key value blocks mode)
 
-leaf_answers : (kind : TreeKind) (key value : List ℕ) (blocks generation : ℕ) (mode : Validation) → NumberAnswersIn mode (validate_leaf_record kind key value blocks generation mode)
+leaf_answers : (kind : TreeKind) (key value : List ℕ) (blocks generation : ℕ) (mode : Validation) → AnswersIn mode (validate_leaf_record kind key value blocks generation mode)
 unfolding validate_leaf_record
 leaf_answers kind key value blocks generation mode = valued (leaf_blocks kind key value) (leaf_demands kind key value blocks generation mode) (go kind)
   where
@@ -307,7 +304,7 @@ leaf_answers kind key value blocks generation mode = valued (leaf_blocks kind ke
     go TreeKind.Cleanup = (passed_on _ _ (cleanup_answers key value blocks generation mode), tt)
     go TreeKind.Workspace = (passed_on _ _ (run_answers key value blocks mode), tt)
 
-leaf_blocks_answers : (kind : TreeKind) (key value : List ℕ) (blocks generation : ℕ) → NumberAnswers (leaf_record_blocks kind key value blocks generation)
+leaf_blocks_answers : (kind : TreeKind) (key value : List ℕ) (blocks generation : ℕ) → Answers (leaf_record_blocks kind key value blocks generation)
 unfolding leaf_record_blocks
 leaf_blocks_answers kind key value blocks generation = numbered _ (leaf_answers kind key value blocks generation Input) (record_size_demands key value) (search good)
 
@@ -321,25 +318,25 @@ unfolding join_check
 join_answers true total seen n mode = listed (join_demands true total seen n mode) (search good)
 join_answers false total seen n mode = listed (join_demands false total seen n mode) (search good)
 
-module _ (leaf : Bool) (mode : Validation) (own : Own) (owned : (key value : List ℕ) → NumberAnswersIn mode (own key value)) where
-  walk_answers : (n : ℕ) (rest : List ℕ) (left : ℕ) (previous : List ℕ) (total : ℕ) (seen : List ℕ) → NumberAnswersIn mode (walk leaf mode own n rest left previous total seen)
+module _ (leaf : Bool) (mode : Validation) (own : Own) (owned : (key value : List ℕ) → AnswersIn mode (own key value)) where
+  walk_answers : (n : ℕ) (rest : List ℕ) (left : ℕ) (previous : List ℕ) (total : ℕ) (seen : List ℕ) → AnswersIn mode (walk leaf mode own n rest left previous total seen)
   unfolding walk
   walk_answers zero rest left previous total seen = valued total (_ ∷ []) (violated mode reason.payload_has_unconsumed_bytes refl, tt)
   walk_answers (suc n) rest left previous total seen =
       numbered _ (walk_answers n _ _ _ _ _) (record_demands leaf mode own rest left previous total seen)
       (passed_on _ _ (form_answers rest left previous mode), (passed_on _ _ (owned (key_of rest) (value_of rest)), (passed_on _ _ (join_answers leaf total seen (number_of (own_answer own rest)) mode), tt)))
 
-own_answers : (b : Bool) (c : RecordValidation) (key value : List ℕ) → NumberAnswersIn c.mode (cond b (leaf_rules c) (child_rules c) key value)
+own_answers : (b : Bool) (c : RecordValidation) (key value : List ℕ) → AnswersIn c.mode (cond b (leaf_rules c) (child_rules c) key value)
 own_answers true c key value = leaf_answers c.kind key value c.blocks c.page_generation c.mode
-own_answers false c key value = child_answers c.kind key value c.blocks c.page_generation c.mode
+own_answers false c key value = block_told c.mode _ (child_answers c.kind key value c.blocks c.page_generation c.mode)
 
-pub records_answers : (rest : List ℕ) (payload_length count : ℕ) (c : RecordValidation) → NumberAnswersIn c.mode (validate_records rest payload_length count c)
+pub records_answers : (rest : List ℕ) (payload_length count : ℕ) (c : RecordValidation) → AnswersIn c.mode (validate_records rest payload_length count c)
 unfolding validate_records records
 records_answers rest payload_length count c =
     numbered _ (walk_answers (is_leaf c) c.mode (own_rules c) (own_answers (is_leaf c) c) count rest payload_length [] 0 []) (size_demands rest payload_length count c.mode) (search good)
 
 -- ---- section 4
-caller_answers : (reference : TreeRef) (uuid : List ℕ) (kind : TreeKind) (parent : ℕ) (expected : Expected) (blocks : ℕ) (page : List ℕ) → Answers (check_caller reference uuid kind parent expected blocks page)
+caller_answers : (reference : TreeRef) (uuid : List ℕ) (kind : TreeKind) (parent : ℕ) (expected : Option ℕ) (blocks : ℕ) (page : List ℕ) → Answers (check_caller reference uuid kind parent expected blocks page)
 unfolding check_caller
 caller_answers reference uuid kind parent expected blocks page = listed (caller_demands reference uuid kind parent expected blocks page) (search (good, blocks_answers, page_ref_answers, uuid_answers))
 
@@ -347,7 +344,7 @@ format_answers : (page : List ℕ) → Answers (check_format page)
 unfolding check_format
 format_answers page = listed (format_demands page) (search good)
 
-page_kind_answers : (kind : TreeKind) (expected : Expected) (page : List ℕ) → Answers (check_kind kind expected page)
+page_kind_answers : (kind : TreeKind) (expected : Option ℕ) (page : List ℕ) → Answers (check_kind kind expected page)
 unfolding check_kind
 page_kind_answers kind expected page = listed (kind_demands kind expected page) (search good)
 
@@ -355,7 +352,7 @@ identity_answers : (reference : TreeRef) (uuid : List ℕ) (kind : TreeKind) (pa
 unfolding check_identity
 identity_answers reference uuid kind parent blocks page = listed (identity_demands reference uuid kind parent blocks page) (search good)
 
-header_answers : (reference : TreeRef) (uuid : List ℕ) (kind : TreeKind) (parent : ℕ) (expected : Expected) (blocks : ℕ) (page : List ℕ) → Answers (validate_page_header reference uuid kind parent expected blocks page)
+header_answers : (reference : TreeRef) (uuid : List ℕ) (kind : TreeKind) (parent : ℕ) (expected : Option ℕ) (blocks : ℕ) (page : List ℕ) → Answers (validate_page_header reference uuid kind parent expected blocks page)
 unfolding validate_page_header
 header_answers reference uuid kind parent expected blocks page =
     listed (header_demands reference uuid kind parent expected blocks page) (search (good, caller_answers, format_answers, page_kind_answers, identity_answers))
@@ -364,26 +361,23 @@ pub content_answers : (kind : TreeKind) (blocks : ℕ) (page : List ℕ) → Ans
 unfolding check_content validate_page_records
 content_answers kind blocks page = listed (content_demands kind blocks page) (passed_on Disk _ (records_answers _ _ _ _), (search good))
 
-paged : (p : Page) → PageAnswers p → (ds : List Demand) → Every (Good Input) ds → PageAnswers (outcome ds refused_page p)
-paged p a = ends (Good Input) PageAnswers refused_page p (λ e g. g.told) a
-
-page_answers : (reference : TreeRef) (uuid : List ℕ) (kind : TreeKind) (parent : ℕ) (expected : Expected) (blocks : ℕ) (page : List ℕ) → PageAnswers (decode_page reference uuid kind parent expected blocks page)
+page_answers : (reference : TreeRef) (uuid : List ℕ) (kind : TreeKind) (parent : ℕ) (expected : Option ℕ) (blocks : ℕ) (page : List ℕ) → Answers (decode_page reference uuid kind parent expected blocks page)
 unfolding decode_page
 page_answers reference uuid kind parent expected blocks page =
-    paged (accepted_page page) refl (page_demands reference uuid kind parent expected blocks page) (search (good, header_answers, content_answers))
+    valued (accepted_page page) (page_demands reference uuid kind parent expected blocks page) (search (good, header_answers, content_answers))
 
-verified_answers : (reference : TreeRef) (uuid : List ℕ) (kind : TreeKind) (parent : ℕ) (expected : Expected) (page : List ℕ) → PageAnswers (verified_page_view reference uuid kind parent expected page)
+verified_answers : (reference : TreeRef) (uuid : List ℕ) (kind : TreeKind) (parent : ℕ) (expected : Option ℕ) (page : List ℕ) → Answers (verified_page_view reference uuid kind parent expected page)
 unfolding verified_page_view
-verified_answers reference uuid kind parent expected page = paged (accepted_page page) refl (verified_demands reference uuid kind parent expected page) (search good)
+verified_answers reference uuid kind parent expected page = valued (accepted_page page) (verified_demands reference uuid kind parent expected page) (search good)
 
-draft_answers : (page : List ℕ) → PageAnswers (draft_page_view page)
+draft_answers : (page : List ℕ) → Answers (draft_page_view page)
 unfolding draft_page_view
-draft_answers page = paged (draft_numbers page) refl (draft_demands page) (search good)
+draft_answers page = valued (draft_numbers page) (draft_demands page) (search good)
 
 -- ---- section 3
-label_answers : (text : List ℕ) → Answers (label_new text).answer
+label_answers : (text : List ℕ) → Answers (label_new text)
 unfolding label_new
-label_answers text = ends (Good Input) (λ (l : NewLabel). Answers l.answer) _ _ refused_answers passing_answers (label_demands text) (search good)
+label_answers text = valued _ (label_demands text) (search good)
 
 place_answers : (s : List ℕ) (slot blocks : ℕ) → Answers (check_place s slot blocks)
 unfolding check_place
@@ -409,65 +403,58 @@ block_answers : (s : List ℕ) (slot blocks : ℕ) → Answers (check_block s sl
 unfolding check_block
 block_answers s slot blocks = listed (block_demands s slot blocks) (search (good, place_answers, envelope_answers, label_field_answers, root_identity_answers))
 
-general_answers : (uuid : List ℕ) (generation size cursor slot blocks : ℕ) (mode : Validation) → AnswersIn mode (check_general uuid generation size cursor slot blocks mode)
+general_answers : (r : Root) (slot blocks : ℕ) (mode : Validation) → AnswersIn mode (check_general r slot blocks mode)
 unfolding check_general
-general_answers uuid generation size cursor slot blocks mode = listed (general_demands uuid generation size cursor slot blocks mode) (search (good, blocks_answers, slot_answers, uuid_answers))
+general_answers r slot blocks mode = listed (general_demands r slot blocks mode) (search (good, blocks_answers, slot_answers, uuid_answers))
 
-refs_answers : (catalog allocation cleanup : TreeRef) (blocks : ℕ) (mode : Validation) → AnswersIn mode (check_refs catalog allocation cleanup blocks mode)
+refs_answers : (r : Root) (blocks : ℕ) (mode : Validation) → AnswersIn mode (check_refs r blocks mode)
 unfolding check_refs
-refs_answers catalog allocation cleanup blocks mode = listed (refs_demands catalog allocation cleanup blocks mode) (search (good, tree_answers))
+refs_answers r blocks mode = listed (refs_demands r blocks mode) (search (good, tree_answers))
 
-bank_answers : (workspace : TreeRef) (generation blocks : ℕ) (mode : Validation) → AnswersIn mode (check_workspace workspace generation blocks mode)
+bank_answers : (r : Root) (blocks : ℕ) (mode : Validation) → AnswersIn mode (check_workspace r blocks mode)
 unfolding check_workspace
-bank_answers workspace generation blocks mode = listed (workspace_demands workspace generation blocks mode) (passed_on _ _ (page_ref_answers workspace TreeKind.Workspace blocks mode), (violated mode reason.invalid_workspace_root refl, tt))
+bank_answers r blocks mode = listed (workspace_demands r blocks mode) (passed_on _ _ (page_ref_answers r.workspace TreeKind.Workspace blocks mode), (violated mode reason.invalid_workspace_root refl, tt))
 
-trees_answers : (catalog allocation cleanup : TreeRef) (generation : ℕ) (mode : Validation) → AnswersIn mode (check_trees catalog allocation cleanup generation mode)
+trees_answers : (r : Root) (mode : Validation) → AnswersIn mode (check_trees r mode)
 unfolding check_trees
-trees_answers catalog allocation cleanup generation mode = listed (trees_demands catalog allocation cleanup generation mode) (search good)
+trees_answers r mode = listed (trees_demands r mode) (search good)
 
-numbers_answers : (object job free blocks : ℕ) (mode : Validation) → AnswersIn mode (check_numbers object job free blocks mode)
+numbers_answers : (r : Root) (blocks : ℕ) (mode : Validation) → AnswersIn mode (check_numbers r blocks mode)
 unfolding check_numbers
-numbers_answers object job free blocks mode = listed (numbers_demands object job free blocks mode) (search good)
+numbers_answers r blocks mode = listed (numbers_demands r blocks mode) (search good)
 
 pub root_fields_answers : (r : Root) (slot blocks : ℕ) (mode : Validation) → AnswersIn mode (validate_root_fields r slot blocks mode)
 unfolding validate_root_fields
 root_fields_answers r slot blocks mode = listed (field_demands r slot blocks mode) (search (good, general_answers, refs_answers, bank_answers, trees_answers, numbers_answers))
 
-root_answers : (s : List ℕ) (slot blocks : ℕ) → Answers (root_decode s slot blocks).answer
+root_answers : (s : List ℕ) (slot blocks : ℕ) → Answers (root_decode s slot blocks)
 unfolding root_decode
 root_answers s slot blocks =
-    ends (Good Input) (λ (d : Decoded). Answers d.answer) root_refused (record { answer = Passed; root = root_of s }) refused_answers passing_answers (root_demands s slot blocks)
+    valued (root_of s) (root_demands s slot blocks)
     (passed_on _ _ (block_answers s slot blocks), (disk_passed_on _ (root_fields_answers (root_of s) slot blocks Disk), tt))
 
-pair_answers : (a b : Root) → AnswersIn Disk (select_pair a b).answer
+pair_answers : (a b : Root) → AnswersIn Disk (select_pair a b)
 unfolding select_pair
-pair_answers a b = ends (Good Disk) (λ (x : Selected). AnswersIn Disk x.answer) selection_refused _ refused_answers (go (leb b.generation a.generation)) (pair_demands a b) (search good)
+pair_answers a b = valued _ (pair_demands a b) (search good)
+
+pub chosen_answers : (a b : Option Root) → AnswersIn Disk (select_root a b)
+chosen_answers None None = record { told = refl }
+chosen_answers (Some a) None = passing_answers
+chosen_answers None (Some b) = passing_answers
+chosen_answers (Some a) (Some b) = pair_answers a b
+
+supported_answers : (d : Result Root Error) → Answers d → Answers (supported_root d)
+supported_answers (Ok r) h = passing_answers
+supported_answers (Err e) h = go (eqb (class_of e) 3)
   where
-    go : (t : Bool) → AnswersIn Disk (cond t (selection 1 a) (selection 2 b)).answer
+    go : (b : Bool) → AnswersIn {A = Option Root} Input (cond b (Ok None) (Err e))
     go true = passing_answers
-    go false = passing_answers
+    go false = record { told = h.told }
 
-pub chosen_answers : (a b : MaybeRoot) → AnswersIn Disk (select_root a b).answer
-chosen_answers a b = go a.present b.present
-  where
-    go : (x y : Bool) → AnswersIn Disk (select_by x y a.root b.root).answer
-    go false false = record { told = refl }
-    go true false = passing_answers
-    go false true = passing_answers
-    go true true = pair_answers a.root b.root
-
-supported_answers : (d : Decoded) → Answers d.answer → Answers (supported_root d).answer
-supported_answers d h = go (eqb (check_class d.answer) 0) (eqb (check_class d.answer) 3)
-  where
-    go : (x y : Bool) → Answers (cond {A = Supported} x (record { answer = Passed; found = one_root d.root }) (cond y (record { answer = Passed; found = none }) (record { answer = d.answer; found = none }))).answer
-    go true y = passing_answers
-    go false true = passing_answers
-    go false false = h
-
-choice_answers : (a b : Supported) → Answers a.answer → Answers b.answer → Answers (choose_root a b).answer
-unfolding choose_root
-choice_answers a b h k =
-    ends (Good Input) (λ (x : Selected). Answers x.answer) selection_refused (select_root a.found b.found) refused_answers (weaker (chosen_answers a.found b.found)) (choice_demands a b) (passed_on _ _ h, (passed_on _ _ k, tt))
+choice_answers : (a b : Result (Option Root) Error) → Answers a → Answers b → Answers (choose_root a b)
+choice_answers (Err e) b h k = record { told = h.told }
+choice_answers (Ok a) (Err e) h k = record { told = k.told }
+choice_answers (Ok a) (Ok b) h k = weaker (chosen_answers a b)
 
 pub demand_1 : Demand1
 demand_1 = record {

@@ -7,31 +7,23 @@ use lib.Dec.{eqb}
 use borrow.Author.Tests.{eqb-true}
 use Rattle.error.specs.declared.Error.{Error}
 use Rattle.error.specs.declared.Validation.TheVariants.{Input, Disk}
-use Rattle.error.specs.declared.Check.{Check}
-use Rattle.error.specs.declared.Check.TheVariants.{Passed, Refused}
-use Rattle.error.specs.declared.Number.{Number}
-use Rattle.error.specs.Answer.{class_of, check_class, check_reason, number_check}
-use Rattle.error.specs.Demand.{Demand, refusal_of, demands}
+use Rattle.std.specs.Prelude.{Option, None, Result, Ok, Err}
+use Rattle.error.specs.Answer.{Number, class_of, check_class, check_reason}
+use Rattle.error.specs.Demand.{Demand, refusal_of, outcome, demands}
 use Rattle.error.proofs.Tests.{and_left}
 use Rattle.crc.specs.Crc.{crc32c}
 use Rattle.crc.specs.DataUnit.{data_unit, data_unit_demands, data_unit_crc}
 use Rattle.volume.specs.declared.TreeRef.{TreeRef}
 use Rattle.volume.specs.declared.TreeKind.{TreeKind}
 use Rattle.volume.specs.References.{validate_blocks, tree_ref_demands, validate_tree_ref, workspace_ref_demands, validate_workspace_ref, validate_page_ref, root_slot_demands, validate_root_slot, validate_uuid}
-use Rattle.group.specs.declared.Slot.{Slot}
-use Rattle.group.specs.Group.{present, word, slot_demands, checksum_slot, group_demands, validate_checksum_group}
-use Rattle.group.specs.Slots.{slot_class}
+use Rattle.group.specs.Group.{slot_demands, checksum_slot, group_demands, validate_checksum_group}
 use Rattle.walk.specs.Records.{is_one_of}
-use Rattle.page.specs.declared.Expected.{Expected}
-use Rattle.page.specs.declared.Page.{Page}
 use Rattle.page.specs.Header.{caller_demands, check_caller, format_demands, check_format, kind_demands, check_kind, identity_demands, check_identity, header_demands, validate_page_header}
-use Rattle.page.specs.Page.{page_demands, refused_page, accepted_page, decode_page}
-use Rattle.root.specs.declared.Decoded.{Decoded}
-use Rattle.root.specs.declared.Supported.{Supported}
-use Rattle.root.specs.declared.Selected.{Selected}
+use Rattle.page.specs.Page.{page_demands, accepted_page, decode_page}
+use Rattle.root.specs.declared.Root.{Root}
 use Rattle.root.specs.Root as root
-use Rattle.root.specs.Root.{label_length, label_text, root_of, place_demands, check_place, envelope_demands, check_envelope, text_demands, check_text, label_field_demands, check_label, block_demands, check_block, root_refused, root_demands, root_decode}
-use Rattle.root.specs.Select.{selection_refused, one_root, none, select_root, supported_root, choice_demands, choose_root}
+use Rattle.root.specs.Root.{label_length, label_text, root_of, place_demands, check_place, envelope_demands, check_envelope, text_demands, check_text, label_field_demands, check_label, block_demands, check_block, root_demands, root_decode}
+use Rattle.root.specs.Select.{supported_root, choose_root}
 use Rattle.claims.specs.Answers.{is_in, is_answer, AnswersIn}
 use Rattle.claims.specs.Classes.{root_classes, page_classes, group_classes, unit_classes, Classes}
 use Rattle.claims.proofs.Answers.{Every, ends, content_answers, root_fields_answers, chosen_answers}
@@ -39,14 +31,20 @@ use Rattle.claims.proofs.Answers.{Every, ends, content_answers, root_fields_answ
 abbrev Of : List ℕ → Error → Type 0
 Of cs e = is_one_of (class_of e) cs ≡ true
 
-record Within (cs : List ℕ) (c : Check) : Type 0 where
+record Within {A : Type 0} (cs : List ℕ) (c : Result A Error) : Type 0 where
   within : is_one_of (check_class c) cs ≡ true
 
 module _ (cs : List ℕ) (passed : is_one_of 0 cs ≡ true) (three : is_one_of 3 cs ≡ true) where
-  checks : (ds : List Demand) → Every (Of cs) ds → Within cs (demands ds)
-  checks = ends (Of cs) (Within cs) Refused Passed (λ e g. record { within = g }) (record { within = passed })
+  gives : {A : Type 0} (r : Result A Error) → Within cs r → (ds : List Demand) → Every (Of cs) ds → Within cs (outcome ds r)
+  gives r a = ends (Of cs) (Within cs) r (λ e g. record { within = g }) a
 
-  either : (b : Bool) (c d : Check) → Within cs c → Within cs d → Within cs (cond b c d)
+  value : {A : Type 0} (a : A) (ds : List Demand) → Every (Of cs) ds → Within cs (outcome ds (Ok a))
+  value a = gives (Ok a) (record { within = passed })
+
+  checks : (ds : List Demand) → Every (Of cs) ds → Within cs (demands ds)
+  checks = value tt
+
+  either : {A : Type 0} (b : Bool) (c d : Result A Error) → Within cs c → Within cs d → Within cs (cond b c d)
   either true c d p q = p
   either false c d p q = q
 
@@ -55,26 +53,22 @@ module _ (cs : List ℕ) (passed : is_one_of 0 cs ≡ true) (three : is_one_of 3
   unfolding validate_checksum_group
   group_in key value = checks (group_demands key value Disk) (three, (three, (three, (three, tt))))
 
-  slot_in : (g : List ℕ) (s : ℕ) → is_one_of (slot_class (checksum_slot g s)) cs ≡ true
+  slot_in : (g : List ℕ) (s : ℕ) → Within cs (checksum_slot g s)
   unfolding checksum_slot
-  slot_in g s = ends (Of cs) (λ (x : Slot). is_one_of (slot_class x) cs ≡ true) Slot.Refused (cond (present g s) (Slot.Word (word g s)) Slot.Hole) (λ e h. h) (go (present g s)) (slot_demands g s) (three, (three, tt))
-    where
-      go : (b : Bool) → is_one_of (slot_class (cond b (Slot.Word (word g s)) Slot.Hole)) cs ≡ true
-      go true = passed
-      go false = passed
+  slot_in g s = value _ (slot_demands g s) (three, (three, tt))
 
   module _ (two : is_one_of 2 cs ≡ true) (four : is_one_of 4 cs ≡ true) where
     -- a check that is one demand of a longer chain
-    kept : {c : Check} → Within cs c → Of cs (refusal_of c)
-    kept {c} h = go c h
+    kept : {A : Type 0} {c : Result A Error} → Within cs c → Of cs (refusal_of c)
+    kept {A} {c} h = go c h
       where
-        go : (c : Check) → Within cs c → Of cs (refusal_of c)
-        go Passed h = four
-        go (Refused e) h = h.within
+        go : (c : Result A Error) → Within cs c → Of cs (refusal_of c)
+        go (Ok a) h = four
+        go (Err e) h = h.within
 
     -- what is answered in mode Disk
-    disk : {c : Check} → AnswersIn Disk c → Within cs c
-    disk {c} h = record { within = go (eqb (check_class c) 0) (eqb (check_class c) 3) refl refl (and_left (is_in Disk (check_class c)) (is_answer (check_class c) (check_reason c)) h.told) }
+    disk : {A : Type 0} {c : Result A Error} → AnswersIn Disk c → Within cs c
+    disk {A} {c} h = record { within = go (eqb (check_class c) 0) (eqb (check_class c) 3) refl refl (and_left (is_in Disk (check_class c)) (is_answer (check_class c) (check_reason c)) h.told) }
       where
         go : (a b : Bool) → eqb (check_class c) 0 ≡ a → eqb (check_class c) 3 ≡ b → (a || (b || eqb (check_class c) 4)) ≡ true → is_one_of (check_class c) cs ≡ true
         go true b p q k = rw (eqb-true (check_class c) 0 p) passed
@@ -109,7 +103,7 @@ module _ (cs : List ℕ) (passed : is_one_of 0 cs ≡ true) (three : is_one_of 3
     uuid_in uuid = checks (_ ∷ []) (two, tt)
 
     -- ---- section 4
-    caller_in : (reference : TreeRef) (uuid : List ℕ) (kind : TreeKind) (parent : ℕ) (expected : Expected) (blocks : ℕ) (page : List ℕ) → Within cs (check_caller reference uuid kind parent expected blocks page)
+    caller_in : (reference : TreeRef) (uuid : List ℕ) (kind : TreeKind) (parent : ℕ) (expected : Option ℕ) (blocks : ℕ) (page : List ℕ) → Within cs (check_caller reference uuid kind parent expected blocks page)
     unfolding check_caller
     caller_in reference uuid kind parent expected blocks page =
         checks (caller_demands reference uuid kind parent expected blocks page)
@@ -119,7 +113,7 @@ module _ (cs : List ℕ) (passed : is_one_of 0 cs ≡ true) (three : is_one_of 3
     unfolding check_format
     format_in page = checks (format_demands page) (three, (three, (four, (four, tt))))
 
-    kind_in : (kind : TreeKind) (expected : Expected) (page : List ℕ) → Within cs (check_kind kind expected page)
+    kind_in : (kind : TreeKind) (expected : Option ℕ) (page : List ℕ) → Within cs (check_kind kind expected page)
     unfolding check_kind
     kind_in kind expected page = checks (kind_demands kind expected page) (three, (three, (three, (three, (three, (three, tt))))))
 
@@ -127,16 +121,16 @@ module _ (cs : List ℕ) (passed : is_one_of 0 cs ≡ true) (three : is_one_of 3
     unfolding check_identity
     identity_in reference uuid kind parent blocks page = checks (identity_demands reference uuid kind parent blocks page) (three, (three, (three, (three, (three, tt)))))
 
-    header_in : (reference : TreeRef) (uuid : List ℕ) (kind : TreeKind) (parent : ℕ) (expected : Expected) (blocks : ℕ) (page : List ℕ) → Within cs (validate_page_header reference uuid kind parent expected blocks page)
+    header_in : (reference : TreeRef) (uuid : List ℕ) (kind : TreeKind) (parent : ℕ) (expected : Option ℕ) (blocks : ℕ) (page : List ℕ) → Within cs (validate_page_header reference uuid kind parent expected blocks page)
     unfolding validate_page_header
     header_in reference uuid kind parent expected blocks page =
         checks (header_demands reference uuid kind parent expected blocks page)
         (kept (caller_in reference uuid kind parent expected blocks page), (kept (format_in page), (kept (kind_in kind expected page), (kept (identity_in reference uuid kind parent blocks page), tt))))
 
-    page_in : (reference : TreeRef) (uuid : List ℕ) (kind : TreeKind) (parent : ℕ) (expected : Expected) (blocks : ℕ) (page : List ℕ) → is_one_of (decode_page reference uuid kind parent expected blocks page).class cs ≡ true
+    page_in : (reference : TreeRef) (uuid : List ℕ) (kind : TreeKind) (parent : ℕ) (expected : Option ℕ) (blocks : ℕ) (page : List ℕ) → Within cs (decode_page reference uuid kind parent expected blocks page)
     unfolding decode_page
     page_in reference uuid kind parent expected blocks page =
-        ends (Of cs) (λ (p : Page). is_one_of p.class cs ≡ true) refused_page (accepted_page page) (λ e g. g) passed (page_demands reference uuid kind parent expected blocks page)
+        value (accepted_page page) (page_demands reference uuid kind parent expected blocks page)
         (kept (header_in reference uuid kind parent expected blocks page), (kept (disk (content_answers kind blocks page)), tt))
 
     -- ---- section 3
@@ -150,24 +144,24 @@ module _ (cs : List ℕ) (passed : is_one_of 0 cs ≡ true) (three : is_one_of 3
 
     label_in : (s : List ℕ) → Within cs (check_label s)
     unfolding check_label
-    label_in s = checks (label_field_demands s) (three, (three, (kept (either (eqb (label_length s) 0) Passed (check_text (label_text s)) (record { within = passed }) (text_in (label_text s))), tt)))
+    label_in s = checks (label_field_demands s) (three, (three, (kept (either (eqb (label_length s) 0) (Ok tt) (check_text (label_text s)) (record { within = passed }) (text_in (label_text s))), tt)))
 
     root_identity_in : (s : List ℕ) (slot blocks : ℕ) → Within cs (root.check_identity s slot blocks)
     unfolding root.check_identity
     root_identity_in s slot blocks = checks (root.identity_demands s slot blocks) (four, (three, (three, tt)))
 
-    supported_in : (d : Decoded) → Within cs d.answer → Within cs (supported_root d).answer
-    supported_in d h = go (eqb (check_class d.answer) 0) (eqb (check_class d.answer) 3)
+    supported_in : (d : Result Root Error) → Within cs d → Within cs (supported_root d)
+    supported_in (Ok r) h = record { within = passed }
+    supported_in (Err e) h = go (eqb (class_of e) 3)
       where
-        go : (x y : Bool) → Within cs (cond {A = Supported} x (record { answer = Passed; found = one_root d.root }) (cond y (record { answer = Passed; found = none }) (record { answer = d.answer; found = none }))).answer
-        go true y = record { within = passed }
-        go false true = record { within = passed }
-        go false false = h
+        go : (b : Bool) → Within {A = Option Root} cs (cond b (Ok None) (Err e))
+        go true = record { within = passed }
+        go false = record { within = h.within }
 
-    choice_in : (a b : Supported) → Within cs a.answer → Within cs b.answer → Within cs (choose_root a b).answer
-    unfolding choose_root
-    choice_in a b h k =
-        ends (Of cs) (λ (x : Selected). Within cs x.answer) selection_refused (select_root a.found b.found) (λ e g. record { within = g }) (disk (chosen_answers a.found b.found)) (choice_demands a b) (kept h, (kept k, tt))
+    choice_in : (a b : Result (Option Root) Error) → Within cs a → Within cs b → Within cs (choose_root a b)
+    choice_in (Err e) b h k = record { within = h.within }
+    choice_in (Ok a) (Err e) h k = record { within = k.within }
+    choice_in (Ok a) (Ok b) h k = disk (chosen_answers a b)
 
     module _ (one : is_one_of 1 cs ≡ true) where
       place_in : (s : List ℕ) (slot blocks : ℕ) → Within cs (check_place s slot blocks)
@@ -178,34 +172,34 @@ module _ (cs : List ℕ) (passed : is_one_of 0 cs ≡ true) (three : is_one_of 3
       unfolding check_block
       block_in s slot blocks = checks (block_demands s slot blocks) (kept (place_in s slot blocks), (kept (envelope_in s), (kept (label_in s), (kept (root_identity_in s slot blocks), tt))))
 
-      root_in : (s : List ℕ) (slot blocks : ℕ) → Within cs (root_decode s slot blocks).answer
+      root_in : (s : List ℕ) (slot blocks : ℕ) → Within cs (root_decode s slot blocks)
       unfolding root_decode
       root_in s slot blocks =
-          ends (Of cs) (λ (d : Decoded). Within cs d.answer) root_refused (record { answer = Passed; root = root_of s }) (λ e g. record { within = g }) (record { within = passed }) (root_demands s slot blocks)
+          value (root_of s) (root_demands s slot blocks)
           (kept (block_in s slot blocks), (kept (disk (root_fields_answers (root_of s) slot blocks Disk)), tt))
 
-decoded_in : (s : List ℕ) (slot blocks : ℕ) → Within root_classes (root_decode s slot blocks).answer
+decoded_in : (s : List ℕ) (slot blocks : ℕ) → Within root_classes (root_decode s slot blocks)
 decoded_in = root_in root_classes refl refl refl refl refl
 
-supported_root_in : (s : List ℕ) (slot blocks : ℕ) → Within root_classes (supported_root (root_decode s slot blocks)).answer
+supported_root_in : (s : List ℕ) (slot blocks : ℕ) → Within root_classes (supported_root (root_decode s slot blocks))
 supported_root_in s slot blocks = supported_in root_classes refl refl refl refl (root_decode s slot blocks) (decoded_in s slot blocks)
 
 -- class 2 has reason 0 here: the string isn't in the list of reasons
 abbrev UnitAnswer : Number → Type 0
-UnitAnswer n = (is_one_of (check_class (number_check n)) unit_classes ≡ true) × (check_reason (number_check n) ≡ 0)
+UnitAnswer n = (is_one_of (check_class n) unit_classes ≡ true) × (check_reason n ≡ 0)
 
 unit_in : (uuid : List ℕ) (object unit : ℕ) (valid : List ℕ) → UnitAnswer (data_unit_crc uuid object unit valid)
 unfolding data_unit_crc
 unit_in uuid object unit valid =
-    ends (λ (e : Error). UnitAnswer (Number.Refused e)) UnitAnswer Number.Refused (Number.Value (crc32c (data_unit uuid object unit valid))) (λ e g. g) (refl, refl) (data_unit_demands valid) ((refl, refl), tt)
+    ends (λ (e : Error). UnitAnswer (Err e)) UnitAnswer (Ok (crc32c (data_unit uuid object unit valid))) (λ e g. g) (refl, refl) (data_unit_demands valid) ((refl, refl), tt)
 
 pub classes : Classes
 classes = record {
   root = λ s slot blocks. (decoded_in s slot blocks).within;
   choice = λ s slot blocks t place size.
       (choice_in root_classes refl refl refl refl (supported_root (root_decode s slot blocks)) (supported_root (root_decode t place size)) (supported_root_in s slot blocks) (supported_root_in t place size)).within;
-  page = page_in page_classes refl refl refl refl;
+  page = λ reference uuid kind parent expected blocks page. (page_in page_classes refl refl refl refl reference uuid kind parent expected blocks page).within;
   group = λ key value. (group_in group_classes refl refl key value).within;
-  slot = slot_in group_classes refl refl;
+  slot = λ g s. (slot_in group_classes refl refl g s).within;
   unit = unit_in;
 }

@@ -1,14 +1,12 @@
 -- Which classes the calls of the C interface answer (01, "Return classes"; include/carryfs.h says the same).
-use Rattle.std.specs.Prelude.{ℕ, ◌≡◌, true, List, [], ◌∷◌}
+use Rattle.std.specs.Prelude.{ℕ, ◌≡◌, true, List, [], ◌∷◌, Option}
 use Rattle.error.specs.declared.Validation.TheVariants.{Disk}
-use Rattle.error.specs.Answer.{check_class, check_reason, number_check}
+use Rattle.error.specs.Answer.{check_class, check_reason}
 use Rattle.crc.specs.DataUnit.{data_unit_crc}
 use Rattle.volume.specs.declared.TreeRef.{TreeRef}
 use Rattle.volume.specs.declared.TreeKind.{TreeKind}
 use Rattle.group.specs.Group.{checksum_slot, validate_checksum_group}
-use Rattle.group.specs.Slots.{slot_class}
 use Rattle.walk.specs.Records.{is_one_of}
-use Rattle.page.specs.declared.Expected.{Expected}
 use Rattle.page.specs.Page.{decode_page}
 use Rattle.root.specs.Root.{root_decode}
 use Rattle.root.specs.Select.{supported_root, choose_root}
@@ -31,9 +29,9 @@ unit_classes = 0 ∷ 2 ∷ []
 
 -- each call answers no class but these; a data unit's reason is 0
 pub record Classes : Type 0 where
-  pub root : (s : List ℕ) (slot blocks : ℕ) → is_one_of (check_class (root_decode s slot blocks).answer) root_classes ≡ true
-  pub choice : (s : List ℕ) (slot blocks : ℕ) (t : List ℕ) (place size : ℕ) → is_one_of (check_class (choose_root (supported_root (root_decode s slot blocks)) (supported_root (root_decode t place size))).answer) root_classes ≡ true
-  pub page : (reference : TreeRef) (uuid : List ℕ) (kind : TreeKind) (parent : ℕ) (expected : Expected) (blocks : ℕ) (page : List ℕ) → is_one_of (decode_page reference uuid kind parent expected blocks page).class page_classes ≡ true
+  pub root : (s : List ℕ) (slot blocks : ℕ) → is_one_of (check_class (root_decode s slot blocks)) root_classes ≡ true
+  pub choice : (s : List ℕ) (slot blocks : ℕ) (t : List ℕ) (place size : ℕ) → is_one_of (check_class (choose_root (supported_root (root_decode s slot blocks)) (supported_root (root_decode t place size)))) root_classes ≡ true
+  pub page : (reference : TreeRef) (uuid : List ℕ) (kind : TreeKind) (parent : ℕ) (expected : Option ℕ) (blocks : ℕ) (page : List ℕ) → is_one_of (check_class (decode_page reference uuid kind parent expected blocks page)) page_classes ≡ true
   pub group : (key value : List ℕ) → is_one_of (check_class (validate_checksum_group key value Disk)) group_classes ≡ true
-  pub slot : (g : List ℕ) (s : ℕ) → is_one_of (slot_class (checksum_slot g s)) group_classes ≡ true
-  pub unit : (uuid : List ℕ) (object unit : ℕ) (valid : List ℕ) → (is_one_of (check_class (number_check (data_unit_crc uuid object unit valid))) unit_classes ≡ true) × (check_reason (number_check (data_unit_crc uuid object unit valid)) ≡ 0)
+  pub slot : (g : List ℕ) (s : ℕ) → is_one_of (check_class (checksum_slot g s)) group_classes ≡ true
+  pub unit : (uuid : List ℕ) (object unit : ℕ) (valid : List ℕ) → (is_one_of (check_class (data_unit_crc uuid object unit valid)) unit_classes ≡ true) × (check_reason (data_unit_crc uuid object unit valid) ≡ 0)

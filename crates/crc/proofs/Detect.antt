@@ -6,15 +6,15 @@ use native.Mathlib.Nat.{suc_inj}
 use native.Mathlib.Omega.{arith}
 use lib.ListN.{length}
 use Rattle.crc.specs.Crc.{ones, polynomial, step_bit, step_bits, step_byte, extend, crc32c}
-use Rattle.crc.specs.Inside.{number}
-use Rattle.crc.proofs.Xor.{◌⊕◌, ⊕_comm, ⊕_zero_l, ⊕_self, ⊕_swap, ⊕_shl, ⊕_lt, ⊕_cancel, ⊕_zero_eq}
-use Rattle.crc.proofs.Linear.{step_bits_⊕, step_bits_add, step_bits_shifted, extend_number}
+use lib.Bits.{xor_comm, xor_zero_l, xor_self, xor_lt}
+use Rattle.crc.proofs.Xor.{◌⊕◌, ⊕_swap, ⊕_shl, ⊕_cancel, ⊕_zero_eq}
+use Rattle.crc.proofs.Linear.{number, step_bits_⊕, step_bits_add, step_bits_shifted, extend_number}
 
 -- ---- a register of 32 bits is stepped back in one way
 
 pub step_bit_lt : (x : ℕ) → x < 2 ^ 32 → step_bit x < 2 ^ 32
 unfolding step_bit
-step_bit_lt x h = ⊕_lt 32 (x / 2) (x % 2 * polynomial) (omega arith) (omega arith)
+step_bit_lt x h = xor_lt 32 (x / 2) (x % 2 * polynomial) (omega arith) (omega arith)
 
 pub step_bits_lt : (n x : ℕ) → x < 2 ^ 32 → step_bits n x < 2 ^ 32
 unfolding step_bits
@@ -34,8 +34,8 @@ step_bits_to_zero (suc n) x h e = step_bit_to_zero x h (step_bits_to_zero n (ste
 pub step_bits_injective : (n a b : ℕ) → a < 2 ^ 32 → b < 2 ^ 32 → step_bits n a ≡ step_bits n b → a ≡ b
 step_bits_injective n a b ha hb e =
     ⊕_zero_eq a b
-    (step_bits_to_zero n (a ⊕ b) (⊕_lt 32 a b ha hb)
-    (step_bits_⊕ n a b ∙ ap (λ (x : ℕ). x ⊕ step_bits n b) e ∙ ⊕_self (step_bits n b)))
+    (step_bits_to_zero n (a ⊕ b) (xor_lt 32 a b ha hb)
+    (step_bits_⊕ n a b ∙ ap (λ (x : ℕ). x ⊕ step_bits n b) e ∙ xor_self (step_bits n b)))
 
 ⊕_injective : (a b c : ℕ) → a ⊕ b ≡ a ⊕ c → b ≡ c
 ⊕_injective a b c e = sym (⊕_cancel a b) ∙ ap (λ (x : ℕ). a ⊕ x) e ∙ ⊕_cancel a c
@@ -44,13 +44,13 @@ step_bits_injective n a b ha hb e =
 pub step_byte_byte : (r b c : ℕ) → r < 2 ^ 32 → b < 2 ^ 8 → c < 2 ^ 8 → step_byte r b ≡ step_byte r c → b ≡ c
 unfolding step_byte
 step_byte_byte r b c hr hb hc e =
-    ⊕_injective r b c (step_bits_injective 8 (r ⊕ b) (r ⊕ c) (⊕_lt 32 r b hr (omega arith)) (⊕_lt 32 r c hr (omega arith)) e)
+    ⊕_injective r b c (step_bits_injective 8 (r ⊕ b) (r ⊕ c) (xor_lt 32 r b hr (omega arith)) (xor_lt 32 r c hr (omega arith)) e)
 
 pub step_byte_register : (r s b : ℕ) → r < 2 ^ 32 → s < 2 ^ 32 → b < 2 ^ 8 → step_byte r b ≡ step_byte s b → r ≡ s
 unfolding step_byte
 step_byte_register r s b hr hs hb e =
     ⊕_injective b r s
-    (⊕_comm b r ∙ step_bits_injective 8 (r ⊕ b) (s ⊕ b) (⊕_lt 32 r b hr (omega arith)) (⊕_lt 32 s b hs (omega arith)) e ∙ ⊕_comm s b)
+    (xor_comm b r ∙ step_bits_injective 8 (r ⊕ b) (s ⊕ b) (xor_lt 32 r b hr (omega arith)) (xor_lt 32 s b hs (omega arith)) e ∙ xor_comm s b)
 
 -- ---- messages of one length
 
@@ -68,7 +68,7 @@ length_xors (x ∷ xs) (y ∷ ys) e = ap suc (length_xors xs ys (suc_inj e))
 
 pub number_xors : (xs ys : List ℕ) → length xs ≡ length ys → number (xors xs ys) ≡ number xs ⊕ number ys
 unfolding number xors
-number_xors [] [] e = sym (⊕_zero_l 0)
+number_xors [] [] e = sym (xor_zero_l 0)
 number_xors [] (y ∷ ys) e = absurd (omega arith)
 number_xors (x ∷ xs) [] e = absurd (omega arith)
 number_xors (x ∷ xs) (y ∷ ys) e =
@@ -103,7 +103,7 @@ pub difference : (r : ℕ) (xs ys : List ℕ) → length xs ≡ length ys
     → step_bits (8 * length xs) (number xs ⊕ number ys) ≡ extend r xs ⊕ extend r ys
 difference r xs ys e =
     ap (step_bits (8 * length xs))
-    (sym (⊕_zero_l (number xs ⊕ number ys)) ∙ ap (λ (x : ℕ). x ⊕ (number xs ⊕ number ys)) (sym (⊕_self r))
+    (sym (xor_zero_l (number xs ⊕ number ys)) ∙ ap (λ (x : ℕ). x ⊕ (number xs ⊕ number ys)) (sym (xor_self r))
     ∙ ⊕_swap r r (number xs) (number ys))
     ∙ step_bits_⊕ (8 * length xs) (r ⊕ number xs) (r ⊕ number ys)
     ∙ ap₂ ◌⊕◌ (sym (extend_number r xs)) (ap (λ (n : ℕ). step_bits (8 * n) (r ⊕ number ys)) e ∙ sym (extend_number r ys))
@@ -116,9 +116,9 @@ burst xs ys e j same differs hj pos small equal =
     let n = 8 * length xs in
     let m : n ≡ j + (n - j) = omega arith in
     let regs : extend ones xs ≡ extend ones ys =
-    ⊕_injective ones (extend ones xs) (extend ones ys) (⊕_comm ones (extend ones xs) ∙ equal ∙ ⊕_comm (extend ones ys) ones) in
+    ⊕_injective ones (extend ones xs) (extend ones ys) (xor_comm ones (extend ones xs) ∙ equal ∙ xor_comm (extend ones ys) ones) in
     let none : step_bits n (number xs ⊕ number ys) ≡ 0 =
-    difference ones xs ys same ∙ ap (λ (x : ℕ). x ⊕ extend ones ys) regs ∙ ⊕_self (extend ones ys) in
+    difference ones xs ys same ∙ ap (λ (x : ℕ). x ⊕ extend ones ys) regs ∙ xor_self (extend ones ys) in
     let gone : e ≡ 0 =
     step_bits_to_zero (n - j) e small
     (ap (step_bits (n - j)) (sym (step_bits_shifted j e)) ∙ sym (step_bits_add j (n - j) (e * 2 ^ j))

@@ -4,35 +4,57 @@ use mathlib.Core.Path.{◌≡◌, refl, sym, ap, ap₂, ◌∙◌, subst}
 use mathlib.Core.Bool.{Bool}
 use mathlib.Core.List.{List, [], ◌∷◌, ◌++◌}
 use Prim.Native.Nat.{ℕ, zero, suc, ◌+◌, ◌-◌, ◌*◌, ◌/◌, ◌%◌, ◌^◌, ◌≤◌, ◌<◌}
-use native.Mathlib.Nat.{le_of_suc-le-suc, not-suc-le-zero, div-eq_of_lt, mul_assoc, mul_comm, zero-mul, one-mul}
+use native.Mathlib.Nat.{add_comm, suc-mul, le_of_suc-le-suc, not-suc-le-zero, div-eq_of_lt, mul_assoc, mul_comm, zero-mul, one-mul}
 use native.Mathlib.Omega.{arith}
 use lib.Dec.{T}
 use lib.ListN.{length, take, drop, get_or, replicate, get_or-append}
 use lib.Pow.{pow-add, shr-shr, split}
-use lib.Seq.{get_or-drop, get_or-append-add}
+use lib.Seq.{drop-drop, take_all, take-take, get_or-drop, get_or-append-add}
 use Rattle.octets.specs.Bytes.{part}
 use Rattle.octets.proofs.Join.{part_length, part_split}
+use Rattle.std.proofs.lemmas.List.{drop-take}
+use Rattle.std.specs.Simd.{first_chunks}
 use Rattle.crc.specs.Crc.{step_bit, step_bits, extend}
-use Rattle.crc.specs.Inside.{lane, round, past_lane, IsLaneWords}
-use Rattle.crc.proofs.Xor.{◌⊕◌, ⊕_comm, ⊕_assoc, ⊕_zero_l, ⊕_zero_r, ⊕_shl, ⊕_shifted, bit_lt}
+use Rattle.crc.specs.Inside.{lane, past_lane, IsLaneWords}
+use lib.Bits.{xor_comm, xor_zero_l, xor_zero_r, xor_shifted, xor_assoc}
+use Rattle.crc.proofs.Xor.{◌⊕◌, ⊕_shl, bit_lt}
 use Rattle.crc.proofs.Linear.{step_bits_⊕, step_bits_zero, step_bits_shifted, eight_more, extend_append, extend_zeros, extend_⊕}
-use Rattle.crc.proofs.Parts.{extend_some}
 use Rattle.crc.proofs.Table.{follow, follows, count, quick, quick_is}
 
 -- ---- the loop over the lanes
 
--- a lane so far, and n bytes more
-pub lane_turn : {a s : ℕ} (r : ℕ) (bs : List ℕ) (p i n : ℕ) → a ≡ extend r (part bs p i)
-    → s ≡ extend a (part bs (p + i) n) → s ≡ extend r (part bs p (i + n))
-lane_turn r bs p i n ha hs =
-    hs ∙ ap (λ (x : ℕ). extend x (part bs (p + i) n)) ha
-    ∙ sym (extend_append r (part bs p i) (part bs (p + i) n))
-    ∙ ap (extend r) (sym (part_split bs p i n))
+-- part i of n bytes
+part_at : (n k : ℕ) (bs : List ℕ) (i : ℕ) (d : List ℕ) → i < k → get_or (first_chunks n k bs) i d ≡ take n (drop (i * n) bs)
+part_at n zero bs i d h = absurd (not-suc-le-zero h)
+part_at n (suc k) bs zero d h = ap (λ (m : ℕ). take n (drop m bs)) (sym (zero-mul n))
+part_at n (suc k) bs (suc i) d h =
+    let e : n + i * n ≡ suc i * n = add_comm n (i * n) ∙ sym (suc-mul i n) in
+    part_at n k (drop n bs) i d (le_of_suc-le-suc h) ∙ ap (take n) (drop-drop (i * n) n bs ∙ ap (λ (m : ℕ). drop m bs) e)
+
+-- a lane so far, and its next eight bytes
+pub lane_turn : {a s : ℕ} (r p i : ℕ) (bs ls : List ℕ) (parts : List (List ℕ)) (d : List ℕ) → ls ≡ part bs p lane → p + lane ≤ length bs → i < lane / 8
+    → parts ≡ first_chunks 8 (length ls / 8) ls
+    → a ≡ extend r (part bs p (8 * i)) → s ≡ extend a (get_or parts i d) → s ≡ extend r (part bs p (8 * (i + 1)))
+lane_turn {a} {s} r p i bs ls parts d el h l ep ea es =
+    let k : i < length ls / 8 = omega (arith, ap length el, part_length bs p lane h) in
+    let m : 8 * (i + 1) ≡ 8 * i + 8 = omega arith in
+    let o : i * 8 ≡ 8 * i = omega arith in
+    let w : lane ≡ 8 * i + (lane - 8 * i) = omega arith in
+    let within : take 8 (drop (8 * i) (part bs p lane)) ≡ part bs (p + 8 * i) 8 =
+    ap (λ (n : ℕ). take 8 (drop (8 * i) (take n (drop p bs)))) w
+    ∙ ap (take 8) (drop-take (8 * i) (lane - 8 * i) (drop p bs))
+    ∙ take-take 8 (lane - 8 * i) (drop (8 * i) (drop p bs)) (omega arith)
+    ∙ ap (take 8) (drop-drop (8 * i) p bs) in
+    let here : get_or parts i d ≡ part bs (p + 8 * i) 8 =
+    ap (λ (x : List (List ℕ)). get_or x i d) ep ∙ part_at 8 (length ls / 8) ls i d k ∙ ap₂ (λ (n : ℕ) (x : List ℕ). take 8 (drop n x)) o el ∙ within in
+    es ∙ ap₂ extend ea here
+    ∙ sym (extend_append r (part bs p (8 * i)) (part bs (p + 8 * i) 8))
+    ∙ ap (extend r) (sym (part_split bs p (8 * i) 8)) ∙ ap (λ (n : ℕ). extend r (part bs p n)) (sym m)
 
 -- a lane of which nothing is taken yet
-pub lane_none : (r : ℕ) (bs : List ℕ) → r ≡ extend r (take 0 bs)
+pub lane_none : (r : ℕ) → r ≡ extend r []
 unfolding extend
-lane_none r bs = refl
+lane_none r = refl
 
 -- ---- lanes joined
 
@@ -41,7 +63,7 @@ two_lanes : (r : ℕ) (xs ys : List ℕ) → length ys ≡ lane → extend r (xs
 unfolding past_lane
 two_lanes r xs ys e =
     extend_append r xs ys
-    ∙ ap (λ (x : ℕ). extend x ys) (sym (⊕_zero_r (extend r xs)))
+    ∙ ap (λ (x : ℕ). extend x ys) (sym (xor_zero_r (extend r xs)))
     ∙ extend_⊕ (extend r xs) 0 ys
     ∙ ap (λ (n : ℕ). step_bits (8 * n) (extend r xs) ⊕ extend 0 ys) e
 
@@ -54,16 +76,17 @@ next_lane r bs p n h qa qb q =
     ∙ ap (extend r) (sym (part_split bs p n lane))
 
 -- the second lane, and then the third, behind what stands before them
-pub three_lanes : {a b c ab abc : ℕ} (r : ℕ) (bs : List ℕ) (p i : ℕ) → i ≤ lane → lane ≤ i → p + round ≤ length bs
-    → a ≡ extend r (part bs p i) → b ≡ extend 0 (part bs (p + lane) i) → c ≡ extend 0 (part bs (p + 2 * lane) i)
-    → ab ≡ past_lane a ⊕ b → abc ≡ past_lane ab ⊕ c → abc ≡ extend r (part bs p round)
-three_lanes r bs p i lo hi h pa pb pc pab pabc =
-    let e : i ≡ lane = omega arith in
-    next_lane r bs p (2 * lane) (omega arith)
-    (next_lane r bs p lane (omega arith)
-    (pa ∙ ap (λ (n : ℕ). extend r (part bs p n)) e)
-    (pb ∙ ap (λ (n : ℕ). extend 0 (part bs (p + lane) n)) e) pab)
-    (pc ∙ ap (λ (n : ℕ). extend 0 (part bs (p + 2 * lane) n)) e) pabc
+pub three_lanes : {a b c ab abc : ℕ} (r i : ℕ) (bs : List ℕ) → i ≤ lane / 8 → lane / 8 ≤ i → length bs ≡ 3 * lane
+    → a ≡ extend r (part bs 0 (8 * i)) → b ≡ extend 0 (part bs lane (8 * i)) → c ≡ extend 0 (part bs (2 * lane) (8 * i))
+    → ab ≡ past_lane a ⊕ b → abc ≡ past_lane ab ⊕ c → abc ≡ extend r bs
+three_lanes r i bs lo hi n pa pb pc pab pabc =
+    let e : 8 * i ≡ lane = omega arith in
+    next_lane r bs 0 (2 * lane) (omega arith)
+    (next_lane r bs 0 lane (omega arith)
+    (pa ∙ ap (λ (n : ℕ). extend r (part bs 0 n)) e)
+    (pb ∙ ap (λ (n : ℕ). extend 0 (part bs lane n)) e) pab)
+    (pc ∙ ap (λ (n : ℕ). extend 0 (part bs (2 * lane) n)) e) pabc
+    ∙ ap (extend r) (take_all (3 * lane) bs (omega arith))
 
 -- ---- the register past a lane, a bit at a time
 
@@ -85,7 +108,7 @@ past_lane_⊕ a b = step_bits_⊕ (8 * lane) a b
 bits_from : (a k : ℕ) → a / 2 ^ k * 2 ^ k ≡ (a / 2 ^ (k + 1) * 2 ^ (k + 1)) ⊕ (a / 2 ^ k % 2 * 2 ^ k)
 bits_from a k =
     let q = a / 2 ^ k in
-    let e : q ≡ (q / 2 * 2) ⊕ (q % 2) = sym (⊕_shifted (q / 2) 1 (q % 2) (bit_lt q) ∙ split q 1) in
+    let e : q ≡ (q / 2 * 2) ⊕ (q % 2) = sym (xor_shifted (q / 2) 1 (q % 2) (bit_lt q) ∙ split q 1) in
     let p : q / 2 * 2 * 2 ^ k ≡ a / 2 ^ (k + 1) * 2 ^ (k + 1) =
     mul_assoc (q / 2) 2 (2 ^ k) ∙ ap₂ ◌*◌ (shr-shr a k 1) (mul_comm 2 (2 ^ k) ∙ sym (pow-add 2 k 1)) in
     ap (λ (x : ℕ). x * 2 ^ k) e ∙ ⊕_shl (q / 2 * 2) (q % 2) k ∙ ap (λ (x : ℕ). x ⊕ (q % 2 * 2 ^ k)) p
@@ -100,8 +123,8 @@ join_turn {w} {s} a r m k hm hk p q =
     ∙ ap (λ (n : ℕ). n ⊕ r)
     (ap past_lane (bits_from a k) ∙ past_lane_⊕ x (a / 2 ^ k % 2 * 2 ^ k)
     ∙ ap (λ (n : ℕ). past_lane x ⊕ n) (bit_word (a / 2 ^ k % 2) k (bit_lt (a / 2 ^ k)) (hm k hk)))
-    ∙ ⊕_assoc (past_lane x) y r
-    ∙ ap (λ (n : ℕ). past_lane x ⊕ n) (⊕_comm y r ∙ sym q)
+    ∙ xor_assoc (past_lane x) y r
+    ∙ ap (λ (n : ℕ). past_lane x ⊕ n) (xor_comm y r ∙ sym q)
 
 pub join_start : (a b : ℕ) → past_lane a ⊕ b ≡ past_lane (a / 2 ^ 0 * 2 ^ 0) ⊕ b
 join_start a b = ap (λ (x : ℕ). past_lane x ⊕ b) (omega arith)
@@ -113,19 +136,18 @@ join_done {w} {r} a k h lo hi p =
     (p ∙ ap (λ (n : ℕ). past_lane (a / 2 ^ n * 2 ^ n) ⊕ r) e
     ∙ ap (λ (n : ℕ). past_lane (n * 2 ^ 32) ⊕ r) (div-eq_of_lt h)
     ∙ ap (λ (n : ℕ). n ⊕ r) (ap past_lane (zero-mul (2 ^ 32)) ∙ past_zero)
-    ∙ ⊕_zero_l r)
+    ∙ xor_zero_l r)
 
 -- the zero bytes of a lane at once
-pub zeros_lane : {w s : ℕ} (r n : ℕ) → w ≡ extend r (replicate n 0) → lane ≤ n → s ≡ past_lane r → w ≡ extend s (replicate (n - lane) 0)
+pub lane_zeros : (r : ℕ) → past_lane r ≡ extend r (replicate lane 0)
 unfolding past_lane
-zeros_lane r n p h q =
-    p ∙ extend_some r lane n h ∙ ap (λ (x : ℕ). extend x (replicate (n - lane) 0)) (extend_zeros r lane ∙ sym q)
+lane_zeros r = sym (extend_zeros r lane)
 
 pub past_alone : {r : ℕ} (a : ℕ) → r ≡ past_lane a ⊕ 0 → r ≡ past_lane a
-past_alone a p = p ∙ ⊕_zero_r (past_lane a)
+past_alone a p = p ∙ xor_zero_r (past_lane a)
 
 pub bit_none : (r x w : ℕ) → x ≡ 0 → r ≡ r ⊕ (x * w)
-bit_none r x w e = sym (ap (λ (n : ℕ). r ⊕ (n * w)) e ∙ ap (λ (n : ℕ). r ⊕ n) (zero-mul w) ∙ ⊕_zero_r r)
+bit_none r x w e = sym (ap (λ (n : ℕ). r ⊕ (n * w)) e ∙ ap (λ (n : ℕ). r ⊕ n) (zero-mul w) ∙ xor_zero_r r)
 
 pub bit_one : (r x w : ℕ) → x ≡ 1 → r ⊕ w ≡ r ⊕ (x * w)
 bit_one r x w e = sym (ap (λ (n : ℕ). r ⊕ (n * w)) e ∙ ap (λ (n : ℕ). r ⊕ n) (one-mul w))

@@ -1,89 +1,61 @@
 -- A message taken a part at a time: what the loops' invariants and the bytes read as zeros rest on.
 use mathlib.Core.Path.{◌≡◌, refl, sym, ap, ap₂, ◌∙◌}
 use mathlib.Core.List.{List, [], ◌∷◌, ◌++◌}
-use Prim.Native.Nat.{ℕ, zero, suc, ◌+◌, ◌-◌, ◌/◌, ◌%◌, ◌≤◌, ◌<◌, zero-le, min}
-use native.Mathlib.Nat.{sub-zero, suc-sub-suc, le_refl, le_of_suc-le-suc, not-suc-le-zero}
+use Prim.Native.Nat.{ℕ, zero, suc, ◌+◌, ◌-◌, ◌*◌, ◌^◌, ◌/◌, ◌%◌, ◌≤◌, ◌<◌, zero-le, min}
+use native.Mathlib.Nat.{pow-suc, div-one, div-div-eq-div-mul, zero-mul, suc-mul, add_comm, sub-zero, suc-sub-suc, le_refl, le_of_suc-le-suc, not-suc-le-zero}
 use native.Mathlib.Omega.{arith}
-use lib.ListN.{length, take, drop, get_or, replicate, take-append-drop, length-drop, drop_of_length-le, replicate-append-replicate}
-use lib.Seq.{drop-cons, drop-drop, take_all}
+use lib.ListN.{length, take, drop, get_or, replicate, take-append-drop, length-drop, replicate-append-replicate}
+use lib.Seq.{take-add, take_all}
+use Rattle.std.specs.Int.{w32, w64, to_le_bytes, bytes_low_first, byte_at}
+use Rattle.std.specs.List.{fold}
+use Rattle.std.specs.Simd.{first_chunks}
 use Rattle.crc.specs.Crc.{ones, step_byte, extend, crc32c, zeroed, crc32c_with_zero}
 use Rattle.crc.specs.DataUnit.{unit_bytes, tag, data_unit}
 use Rattle.crc.proofs.Xor.{◌⊕◌}
-use Rattle.octets.specs.Bytes.{part}
 use Rattle.octets.specs.Number.{little_bytes}
 use Rattle.crc.proofs.Linear.{extend_append}
 
--- the byte at i, and then the rest
-extend_one : (r : ℕ) (bs : List ℕ) (i j : ℕ) → j ≡ suc i → i < length bs
-    → extend r (drop i bs) ≡ extend (step_byte r (get_or bs i 0)) (drop j bs)
+-- a message byte by byte
+pub over_bytes : (r : ℕ) (bs : List ℕ) → fold step_byte r bs ≡ extend r bs
 unfolding extend
-extend_one r bs i j e h =
-    ap (extend r) (drop-cons bs i 0 h) ∙ ap (λ (k : ℕ). extend (step_byte r (get_or bs i 0)) (drop k bs)) (sym e)
+over_bytes r [] = refl
+over_bytes r (b ∷ bs) = over_bytes (step_byte r b) bs
 
--- a turn of the loop over a message: w is the register after the whole, r that before the turn and s that after it
-pub turn_one : {w s : ℕ} (r : ℕ) (bs : List ℕ) (i : ℕ) → w ≡ extend r (drop i bs) → i < length bs → s ≡ step_byte r (get_or bs i 0)
-    → w ≡ extend s (drop (i + 1) bs)
-turn_one r bs i p h q = p ∙ extend_one r bs i (i + 1) (omega arith) h ∙ ap (λ (x : ℕ). extend x (drop (i + 1) bs)) (sym q)
-
-pub turns_done : {w r : ℕ} (bs : List ℕ) (i : ℕ) → w ≡ extend r (drop i bs) → length bs ≤ i → r ≡ w
+-- the first k parts of n bytes, part by part
+pub over_parts : (n k r : ℕ) (bs : List ℕ) → fold extend r (first_chunks n k bs) ≡ extend r (take (k * n) bs)
 unfolding extend
-turns_done {w} {r} bs i p h = sym (p ∙ ap (extend r) (drop_of_length-le bs h))
+over_parts n zero r bs = ap (λ (m : ℕ). extend r (take m bs)) (sym (zero-mul n))
+over_parts n (suc k) r bs =
+    let e : suc k * n ≡ n + k * n = suc-mul k n ∙ add_comm (k * n) n in
+    over_parts n k (extend r (take n bs)) (drop n bs)
+    ∙ sym (extend_append r (take n bs) (take (k * n) (drop n bs)))
+    ∙ ap (extend r) (sym (take-add n (k * n) bs))
+    ∙ ap (λ (m : ℕ). extend r (take m bs)) (sym e)
 
--- the byte at j, and n more
-take_one : (bs : List ℕ) (n j k : ℕ) → k ≡ suc j → j < length bs → take (suc n) (drop j bs) ≡ get_or bs j 0 ∷ take n (drop k bs)
-take_one bs n j k e l = ap (take (suc n)) (drop-cons bs j 0 l) ∙ ap (λ (m : ℕ). get_or bs j 0 ∷ take n (drop m bs)) (sym e)
+-- the parts of n bytes, and then the rest
+pub parts_rest : {x : ℕ} (n r : ℕ) (bs rest : List ℕ) (parts : List (List ℕ))
+    → parts ≡ first_chunks n (length bs / n) bs → rest ≡ drop (length bs / n * n) bs → x ≡ fold extend r parts → extend x rest ≡ extend r bs
+parts_rest n r bs rest parts ep er ex =
+    let m = length bs / n * n in
+    ap₂ extend (ex ∙ ap (fold extend r) ep ∙ over_parts n (length bs / n) r bs) er
+    ∙ sym (extend_append r (take m bs) (drop m bs))
+    ∙ ap (extend r) (take-append-drop m bs)
 
--- eight of them
-take_eight : (bs : List ℕ) (i : ℕ) → i + 8 ≤ length bs
-    → part bs i 8
-    ≡ get_or bs i 0 ∷ get_or bs (i + 1) 0 ∷ get_or bs (i + 2) 0 ∷ get_or bs (i + 3) 0
-    ∷ get_or bs (i + 4) 0 ∷ get_or bs (i + 5) 0 ∷ get_or bs (i + 6) 0 ∷ get_or bs (i + 7) 0 ∷ []
-take_eight bs i h =
-    let e7 = take_one bs 0 (i + 7) (i + 8) (omega arith) (omega arith) in
-    let e6 = take_one bs 1 (i + 6) (i + 7) (omega arith) (omega arith) in
-    let e5 = take_one bs 2 (i + 5) (i + 6) (omega arith) (omega arith) in
-    let e4 = take_one bs 3 (i + 4) (i + 5) (omega arith) (omega arith) in
-    let e3 = take_one bs 4 (i + 3) (i + 4) (omega arith) (omega arith) in
-    let e2 = take_one bs 5 (i + 2) (i + 3) (omega arith) (omega arith) in
-    let e1 = take_one bs 6 (i + 1) (i + 2) (omega arith) (omega arith) in
-    let e0 = take_one bs 7 i (i + 1) (omega arith) (omega arith) in
-    cc
+-- k zero bytes, and m more
+pub zeros_more : {w s : ℕ} (r k m n : ℕ) → w ≡ extend r (replicate n 0) → n ≡ k + m → s ≡ extend r (replicate k 0) → w ≡ extend s (replicate m 0)
+zeros_more r k m n p e q =
+    p ∙ ap (λ (x : ℕ). extend r (replicate x 0)) e
+    ∙ ap (extend r) (sym (replicate-append-replicate k m 0))
+    ∙ extend_append r (replicate k 0) (replicate m 0)
+    ∙ ap (λ (x : ℕ). extend x (replicate m 0)) (sym q)
 
--- eight bytes by their places
-pub eight_at : {s : ℕ} (r : ℕ) (bs : List ℕ) (i : ℕ) → i + 8 ≤ length bs
-    → s ≡ extend r (get_or bs i 0 ∷ get_or bs (i + 1) 0 ∷ get_or bs (i + 2) 0 ∷ get_or bs (i + 3) 0
-    ∷ get_or bs (i + 4) 0 ∷ get_or bs (i + 5) 0 ∷ get_or bs (i + 6) 0 ∷ get_or bs (i + 7) 0 ∷ [])
-    → s ≡ extend r (part bs i 8)
-eight_at r bs i h q = q ∙ ap (extend r) (sym (take_eight bs i h))
-
--- a turn that takes n bytes, eight or a round
-pub turn_some : {w s : ℕ} (r : ℕ) (bs : List ℕ) (i n : ℕ) → w ≡ extend r (drop i bs) → s ≡ extend r (part bs i n)
-    → w ≡ extend s (drop (i + n) bs)
-turn_some r bs i n p q =
-    p ∙ ap (extend r) (sym (take-append-drop n (drop i bs)))
-    ∙ extend_append r (part bs i n) (drop n (drop i bs))
-    ∙ ap₂ extend (sym q) (drop-drop n i bs)
-
--- k of n zero bytes, and then the rest
-pub extend_some : (r k n : ℕ) → k ≤ n → extend r (replicate n 0) ≡ extend (extend r (replicate k 0)) (replicate (n - k) 0)
-extend_some r k n h =
-    let e : n ≡ k + (n - k) = omega arith in
-    ap (λ (m : ℕ). extend r (replicate m 0)) e
-    ∙ ap (extend r) (sym (replicate-append-replicate k (n - k) 0))
-    ∙ extend_append r (replicate k 0) (replicate (n - k) 0)
-
--- the same of the loops over zeros
-pub zeros_eight : {w s : ℕ} (r n : ℕ) → w ≡ extend r (replicate n 0) → 8 ≤ n
-    → s ≡ extend r (0 ∷ 0 ∷ 0 ∷ 0 ∷ 0 ∷ 0 ∷ 0 ∷ 0 ∷ []) → w ≡ extend s (replicate (n - 8) 0)
-zeros_eight r n p h q = p ∙ extend_some r 8 n h ∙ ap (λ (x : ℕ). extend x (replicate (n - 8) 0)) (sym q)
-
-pub zeros_one : {w s : ℕ} (r n : ℕ) → w ≡ extend r (replicate n 0) → 0 < n → s ≡ step_byte r 0 → w ≡ extend s (replicate (n - 1) 0)
+pub zeros_done : {w r : ℕ} (n : ℕ) → w ≡ extend r (replicate n 0) → n ≡ 0 → r ≡ w
 unfolding extend
-zeros_one r n p h q = p ∙ extend_some r 1 n h ∙ ap (λ (x : ℕ). extend x (replicate (n - 1) 0)) (sym q)
+zeros_done {w} {r} n p e = sym (p ∙ ap (λ (k : ℕ). extend r (replicate k 0)) e)
 
-pub zeros_done : {w r : ℕ} (n : ℕ) → w ≡ extend r (replicate n 0) → n ≤ 0 → r ≡ w
+pub zero_byte : (r : ℕ) → step_byte r 0 ≡ extend r (replicate 1 0)
 unfolding extend
-zeros_done {w} {r} n p h = let e : n ≡ 0 = omega arith in sym (p ∙ ap (λ (k : ℕ). extend r (replicate k 0)) e)
+zero_byte r = refl
 
 -- ---- bytes read as zeros: what the definition says at each place
 
@@ -184,26 +156,27 @@ with_zero {e} {s} {x} {y} {z} bs start end pe ps px py pz =
 
 -- ---- a data unit
 
--- a turn of the loop over a number's bytes: the lowest, and then the rest
-pub number_one : {w s b : ℕ} (r left n : ℕ) → w ≡ extend r (little_bytes left n) → 0 < left → b ≡ n % 256 → s ≡ step_byte r b
-    → w ≡ extend s (little_bytes (left - 1) (n / 256))
-unfolding extend
-number_one r zero n p h e q = absurd (not-suc-le-zero h)
-number_one r (suc left) n p h e q =
-    let k : left ≡ suc left - 1 = omega arith in
-    p ∙ ap₂ (λ (x y : ℕ). extend x (little_bytes y (n / 256))) (sym (q ∙ ap (step_byte r) e)) k
+-- the library's bytes of a number, the lowest first
+from_byte : (i k n : ℕ) → bytes_low_first i k n ≡ little_bytes k (n / 256 ^ i)
+from_byte i zero n = refl
+from_byte i (suc k) n = ap₂ (λ (x : ℕ) (xs : List ℕ). x ∷ xs) (low i) (from_byte (suc i) k n ∙ ap (little_bytes k) (ap (λ (x : ℕ). n / x) (pow-suc 256 i) ∙ sym (div-div-eq-div-mul n (256 ^ i) 256)))
+  where
+    low : (i : ℕ) → byte_at i n ≡ n / 256 ^ i % 256
+    low zero = ap (λ (x : ℕ). x % 256) (sym (div-one n))
+    low (suc i) = refl
 
-pub number_done : {w r : ℕ} (left n : ℕ) → w ≡ extend r (little_bytes left n) → left ≤ 0 → r ≡ w
-unfolding extend
-number_done zero n p h = sym p
-number_done (suc left) n p h = absurd (not-suc-le-zero h)
+bytes_same : (k n : ℕ) → bytes_low_first 0 k n ≡ little_bytes k n
+bytes_same k n = from_byte 0 k n ∙ ap (little_bytes k) (div-one n)
 
 -- the parts that are summed, one after the other
-pub data_unit_lem : {a b c d e f g : ℕ} (uuid : List ℕ) (object unit : ℕ) (valid : List ℕ)
-    → a ≡ extend ones tag → b ≡ extend a uuid → c ≡ extend b (little_bytes 8 object) → d ≡ extend c (little_bytes 8 unit)
-    → e ≡ extend d (little_bytes 4 (length valid)) → f ≡ extend e valid → g ≡ extend f (replicate (unit_bytes - length valid) 0)
+pub data_unit_lem : {a b c d e f g : ℕ} {os us ls : List ℕ} (uuid : List ℕ) (object unit : ℕ) (valid : List ℕ)
+    → a ≡ extend ones tag → b ≡ extend a uuid → os ≡ to_le_bytes w64 object → c ≡ extend b os → us ≡ to_le_bytes w64 unit → d ≡ extend c us
+    → ls ≡ to_le_bytes w32 (length valid) → e ≡ extend d ls → f ≡ extend e valid → g ≡ extend f (replicate (unit_bytes - length valid) 0)
     → g ⊕ ones ≡ crc32c (data_unit uuid object unit valid)
 unfolding crc32c data_unit
-data_unit_lem {a} {b} {c} {d} {e} {f} {g} uuid object unit valid pa pb pc pd pe pf pg =
+data_unit_lem {a} {b} {c} {d} {e} {f} {g} {os} {us} {ls} uuid object unit valid pa pb po pc pu pd pl pe pf pg =
+    let o = po ∙ bytes_same 8 object in
+    let u = pu ∙ bytes_same 8 unit in
+    let l = pl ∙ bytes_same 4 (length valid) in
     let same : g ≡ extend ones (data_unit uuid object unit valid) = simp extend_append (cc) in
     ap (λ (x : ℕ). x ⊕ ones) same

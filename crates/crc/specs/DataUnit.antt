@@ -1,7 +1,8 @@
 -- The checksum of one unit of a file's data (crc.rs, `data_unit_crc`).
+use Rattle.std.specs.Prelude.{Ok}
 use Rattle.std.specs.Prelude.{ℕ, ◌-◌, ◌&&◌, List, [], ◌∷◌, ◌++◌, leb, length, replicate}
 use Rattle.error.specs.declared.Error.TheVariants.{InvalidInput}
-use Rattle.error.specs.declared.Number.{Number}
+use Rattle.error.specs.Answer.{Number}
 use Rattle.error.specs.Demand.{Demand, ◌otherwise◌, outcome}
 use Rattle.octets.specs.Number.{little_bytes}
 use Rattle.crc.specs.Crc.{crc32c}
@@ -30,4 +31,4 @@ data_unit_demands valid = (leb 1 (length valid) && leb (length valid) unit_bytes
 -- crc.rs, `data_unit_crc`: the sum, or why there is none
 unfoldable pub data_unit_crc : List ℕ → ℕ → ℕ → List ℕ → Number
 data_unit_crc uuid object unit valid =
-    outcome (data_unit_demands valid) Number.Refused (Number.Value (crc32c (data_unit uuid object unit valid)))
+    outcome (data_unit_demands valid) (Ok (crc32c (data_unit uuid object unit valid)))

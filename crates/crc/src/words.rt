@@ -1,5 +1,5 @@
 // Word k * 256 + b: the register after the byte b and then k zero bytes, from a register of 0. proofs/tables proves it of each.
-pub const TABLES: [u32; 2048] = [
+pub static TABLES: [u32; 2048] = [
     0x00000000, 0xf26b8303, 0xe13b70f7, 0x1350f3f4, 0xc79a971f, 0x35f1141c, 0x26a1e7e8, 0xd4ca64eb,
     0x8ad958cf, 0x78b2dbcc, 0x6be22838, 0x9989ab3b, 0x4d43cfd0, 0xbf284cd3, 0xac78bf27, 0x5e133c24,
     0x105ec76f, 0xe235446c, 0xf165b798, 0x030e349b, 0xd7c45070, 0x25afd373, 0x36ff2087, 0xc494a384,
@@ -259,7 +259,7 @@ pub const TABLES: [u32; 2048] = [
 ];
 
 // Word k: the register 2^k after 1,336 zero bytes. proofs/lane_words proves it of each.
-pub const LANE_WORDS: [u32; 32] = [
+pub static LANE_WORDS: [u32; 32] = [
     0xc9c8b782, 0x967d19f5, 0x2916451b, 0x522c8a36, 0xa459146c, 0x4d5e5e29, 0x9abcbc52, 0x30950e55,
     0x612a1caa, 0xc2543954, 0x81440459, 0x07647e43, 0x0ec8fc86, 0x1d91f90c, 0x3b23f218, 0x7647e430,
     0xec8fc860, 0xdcf3e631, 0xbc0bba93, 0x7dfb03d7, 0xfbf607ae, 0xf20079ad, 0xe1ec85ab, 0xc6357da7,

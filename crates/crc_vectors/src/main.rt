@@ -1,7 +1,6 @@
 // Runs the vectors of RFC 3720, appendix B.4, and cases whose words the reference computed, and writes each word in hexadecimal.
 #![tactic(auto)]
 
-use error::Number;
 use std::io;
 
 fn show(rt: &HostRuntime, name: &str, word: u32) -> io::Result<()> {
@@ -12,8 +11,8 @@ fn show(rt: &HostRuntime, name: &str, word: u32) -> io::Result<()> {
 fn show_unit(rt: &HostRuntime, name: &str, valid: &[u8]) -> io::Result<()> {
     let uuid = b"0123456789abcdef";
     match crc::data_unit_crc(uuid, 0x0102_0304_0506_0708, 0xFFFF_FFFF_FFFF_FFFE, valid) {
-        Number::Value(word) => println!(rt; "{name}0 0 {word:08x}"),
-        Number::Refused(e) => {
+        Ok(word) => println!(rt; "{name}0 0 {word:08x}"),
+        Err(e) => {
             let class = error::class_of(e);
             let reason = error::reason_of(e);
             println!(rt; "{name}{class:x} {reason:x} 0")

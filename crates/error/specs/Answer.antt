@@ -1,12 +1,9 @@
 -- Answers and their numbers (01, "Return classes").
-use Rattle.std.specs.Prelude.{ℕ}
+use Rattle.std.specs.Prelude.{ℕ, Result, Ok, Err}
 use Rattle.error.specs.declared.Error.{Error}
 use Rattle.error.specs.declared.Error.TheVariants.{InvalidGeometry, InvalidInput, Corrupt, UnsupportedFormat, InvalidName, TooLong}
 use Rattle.error.specs.declared.Validation.{Validation}
 use Rattle.error.specs.declared.Validation.TheVariants.{Input, Disk}
-use Rattle.error.specs.declared.Number.{Number}
-use Rattle.error.specs.declared.Check.{Check}
-use Rattle.error.specs.declared.Check.TheVariants.{Passed, Refused}
 
 -- 01, "Return classes": the class of each refusal
 abbrev pub class_of : Error → ℕ
@@ -26,25 +23,33 @@ reason_of UnsupportedFormat = 0
 reason_of (InvalidName reason) = reason
 reason_of (TooLong reason) = reason
 
--- 01, "Return classes": a check that passes answers class 0 and reason 0
-abbrev pub check_class : Check → ℕ
-check_class Passed = 0
-check_class (Refused e) = class_of e
+-- the answer of a check that gives no value: it passed, or a refusal
+abbrev pub Check : Type 0
+Check = Result Unit Error
+
+-- the answer of a check that gives a number: it, or a refusal
+abbrev pub Number : Type 0
+Number = Result ℕ Error
+
+-- 01, "Return classes": a check that passes answers class 0 and reason 0, whatever it gives
+abbrev pub check_class : {A : Type 0} → Result A Error → ℕ
+check_class (Ok a) = 0
+check_class (Err e) = class_of e
 
 -- 01, "Return classes": the reason of a check's answer, 0 where it passed
-abbrev pub check_reason : Check → ℕ
-check_reason Passed = 0
-check_reason (Refused e) = reason_of e
+abbrev pub check_reason : {A : Type 0} → Result A Error → ℕ
+check_reason (Ok a) = 0
+check_reason (Err e) = reason_of e
 
 -- a check that gives a number, as a check alone
 abbrev pub number_check : Number → Check
-number_check (Number.Value n) = Passed
-number_check (Number.Refused e) = Refused e
+number_check (Ok n) = Ok tt
+number_check (Err e) = Err e
 
 -- the number of an answer, 0 beside a refusal
 abbrev pub number_of : Number → ℕ
-number_of (Number.Value n) = n
-number_of (Number.Refused e) = 0
+number_of (Ok n) = n
+number_of (Err e) = 0
 
 -- `violation`: what a check of either mode refuses is class 2 in mode Input, class 3 in mode Disk (01, "Return classes")
 abbrev pub violation_of : Validation → ℕ → Error

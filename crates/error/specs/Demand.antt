@@ -1,9 +1,8 @@
 -- A chain of checks as a list of demands (01, "Return classes": the first failing check in the Rust's order answers).
-use Rattle.std.specs.Prelude.{◌≡◌, Bool, true, false, ◌&&◌, cond, List, [], ◌∷◌}
+use Rattle.std.specs.Prelude.{◌≡◌, Bool, true, false, ◌&&◌, cond, List, [], ◌∷◌, Result, Ok, Err}
 use Rattle.error.specs.declared.Error.{Error}
 use Rattle.error.specs.declared.Error.TheVariants.{UnsupportedFormat}
-use Rattle.error.specs.declared.Check.{Check}
-use Rattle.error.specs.declared.Check.TheVariants.{Passed, Refused}
+use Rattle.error.specs.Answer.{Check}
 
 -- a demand: a test, and the refusal where the test doesn't hold
 pub record Demand : Type 0 where
@@ -15,28 +14,28 @@ infixl 70 ◌otherwise◌
 abbrev pub ◌otherwise◌ : Bool → Error → Demand
 t otherwise e = record { test = t; refusal = e }
 
--- whether a check passed
-abbrev pub is_passed : Check → Bool
-is_passed Passed = true
-is_passed (Refused e) = false
+-- whether a check passed, whatever it gives
+abbrev pub is_passed : {A : Type 0} → Result A Error → Bool
+is_passed (Ok a) = true
+is_passed (Err e) = false
 
 -- the refusal of a check; of one that passed it is never asked
-abbrev pub refusal_of : Check → Error
-refusal_of Passed = UnsupportedFormat
-refusal_of (Refused e) = e
+abbrev pub refusal_of : {A : Type 0} → Result A Error → Error
+refusal_of (Ok a) = UnsupportedFormat
+refusal_of (Err e) = e
 
 -- a check as one demand of a longer chain: it passes, otherwise its own refusal answers
-abbrev pub passing : Check → Demand
+abbrev pub passing : {A : Type 0} → Result A Error → Demand
 passing c = record { test = is_passed c; refusal = refusal_of c }
 
 -- the first demand whose test fails answers with its refusal; where all hold, the call's own result
-unfoldable pub outcome : {A : Type 0} → List Demand → (Error → A) → A → A
-outcome [] refused accepted = accepted
-outcome (d ∷ ds) refused accepted = cond d.test (outcome ds refused accepted) (refused d.refusal)
+unfoldable pub outcome : {A : Type 0} → List Demand → Result A Error → Result A Error
+outcome [] accepted = accepted
+outcome (d ∷ ds) accepted = cond d.test (outcome ds accepted) (Err d.refusal)
 
 -- the same where the result is only that all hold
 abbrev pub demands : List Demand → Check
-demands ds = outcome ds Refused Passed
+demands ds = outcome ds (Ok tt)
 
 -- every test of the list holds; no order is in it
 abbrev pub AllHold : List Demand → Type 0

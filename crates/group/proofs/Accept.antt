@@ -7,7 +7,7 @@ use borrow.Author.Tests.{le-leb, leb-true, eq-eqb, eqb-true}
 use lib.Dec.{leb, eqb}
 use lib.ListN.{length}
 use Rattle.error.specs.declared.Validation.{Validation}
-use Rattle.error.specs.declared.Check.TheVariants.{Passed}
+use Rattle.std.specs.Prelude.{Ok}
 use Rattle.error.proofs.Exactly.{all_hold, all_pass}
 use Rattle.error.proofs.Tests.{and_left, and_right, and_both}
 use Rattle.octets.specs.Number.{big_at}
@@ -16,7 +16,7 @@ use Rattle.group.specs.Group.{present, word, stored_slots, stored_bytes, hole_ze
 use Rattle.group.specs.Accept.{GroupHolds, GroupExactly}
 use Rattle.group.proofs.Compact.{sized}
 
-holds : (key value : List ℕ) (mode : Validation) → validate_checksum_group key value mode ≡ Passed → GroupHolds key value
+holds : (key value : List ℕ) (mode : Validation) → validate_checksum_group key value mode ≡ Ok tt → GroupHolds key value
 unfolding validate_checksum_group is_compact holes_zero
 holds key value mode e =
     let h = all_hold (group_demands key value mode) e in
@@ -33,7 +33,7 @@ holds key value mode e =
     hole true w e p = cc
     hole false w e p = eqb-true w 0 e
 
-passes : (key value : List ℕ) (mode : Validation) → GroupHolds key value → validate_checksum_group key value mode ≡ Passed
+passes : (key value : List ℕ) (mode : Validation) → GroupHolds key value → validate_checksum_group key value mode ≡ Ok tt
 unfolding validate_checksum_group right_size is_compact holes_zero
 passes key value mode h =
     all_pass (group_demands key value mode) (

@@ -10,9 +10,13 @@ use lib.ListN.{length, get_or, take, drop, replicate, length-append, length-repl
 use lib.Seq.{take_all, take-append-le, drop-append-le}
 use Rattle.octets.specs.Bytes.{bit}
 use Rattle.octets.specs.Number.{little, field}
-use Rattle.group.specs.declared.Slot.{Slot}
+use Rattle.std.specs.Prelude.{Some, Ok}
+use Rattle.group.specs.Slots.{Slot}
 use Rattle.group.specs.Group.{present, word, checksum_slot, expand_group}
 use Rattle.group.proofs.Slots.{Good, slot_held, slot_hole, slot_out, in_stored}
+
+abbrev given : ℕ → Slot
+given w = Ok (Some w)
 
 module _ (g : List ℕ) (ok : Good g) where
   whole : expand_group g ≡ g ++ replicate (1056 - length g) 0
@@ -41,7 +45,7 @@ module _ (g : List ℕ) (ok : Good g) where
       each h true p =
           let l : 32 + 4 * s + 4 ≤ length g = omega (arith, ok.ends, in_stored g ok s h p) in
           slot_held (expand_group g) s h (omega (arith, expanded_length)) (expanded_present s h ∙ p)
-          ∙ ap Slot.Word (expanded_word s l) ∙ sym (slot_held g s h l p)
+          ∙ ap given (expanded_word s l) ∙ sym (slot_held g s h l p)
       each h false p =
           slot_hole (expand_group g) s h (omega (arith, expanded_length)) (expanded_present s h ∙ p)
           ∙ sym (slot_hole g s h (omega (arith, ok.long)) p)

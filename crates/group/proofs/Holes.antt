@@ -1,12 +1,13 @@
--- Holes: the test of a slot, the eight slots of a byte, and the walks over the first bytes and the first slots.
+-- Holes: the test of a slot, the eight slots of a bitmap byte, and the walk over the first slots.
 use mathlib.Core.Path.{◌≡◌, refl, sym, ap, ◌∙◌}
 use mathlib.Core.Bool.{Bool, true, false, not, ◌&&◌, ◌||◌, and_assoc, and_comm}
 use mathlib.Core.List.{List, [], ◌∷◌}
 use Prim.Native.Nat.{ℕ, zero, suc, ◌+◌, ◌-◌, ◌*◌, ◌/◌, ◌%◌, ◌^◌, ◌≤◌, ◌<◌}
 use native.Mathlib.Nat.{add-zero, add-suc}
+use native.Mathlib.Numerals.{add-one}
 use native.Mathlib.Omega.{arith}
 use borrow.Author.Tests.{eqb-true, eqb-false}
-use lib.Dec.{eqb, lit<}
+use lib.Dec.{eqb}
 use lib.ListN.{length, get_or, take, drop, length-take, length-drop, take-append-drop}
 use lib.Seq.{drop-append-le, take-append-le}
 use lib.Bits.{bit_and}
@@ -16,7 +17,7 @@ use Rattle.octets.specs.Number.{little, u32_at, field}
 use Rattle.octets.specs.Below.{every}
 use Rattle.octets.proofs.Below.{every_at, every_all, every_false, every_more}
 use Rattle.octets.proofs.Bit.{mask_clear, mask_set, bit_of}
-use Rattle.octets.proofs.Parts.{field_from}
+use Rattle.octets.proofs.Parts.{field_from, part_from}
 use Rattle.group.specs.Group.{present, word, hole_zero}
 use Rattle.group.specs.Inside.{slot_zero, eight_zero}
 
@@ -44,16 +45,8 @@ field_within s p n o w h l =
     ap little (sym (take-append-le w (drop o a) (drop n t) (omega arith)) ∙ ap (take w) (sym (drop-append-le o a (drop n t) (omega arith)) ∙ ap (drop o) (take-append-drop n t)))
     ∙ field_from s p o w
 
--- ---- a slot
+-- ---- a slot, by its byte and the words that are lent
 
-module _ (g : List ℕ) (s : ℕ) where
-  pub slot_present : (bit_and (get_or g (s / 8) 0) ((1 * 2 ^ (s % 8)) % 2 ^ 8) ≡ 0 → ⊥) → true ≡ hole_zero g s
-  slot_present n = sym (or_first (present g s) (eqb (word g s) 0) (mask_set g s n))
-
-  pub slot_absent : (w : ℕ) → bit_and (get_or g (s / 8) 0) ((1 * 2 ^ (s % 8)) % 2 ^ 8) ≡ 0 → w ≡ word g s → eqb w 0 ≡ hole_zero g s
-  slot_absent w e p = rw (mask_clear g s e, p)
-
--- by its byte and the byte's words
 module _ (bits j : ℕ) (h : j < 8) where
   -- the code's mask
   abbrev mask : ℕ
@@ -73,7 +66,16 @@ module _ (bits j : ℕ) (h : j < 8) where
   pub slot_joined : (words : List ℕ) (w : ℕ) → w ≡ u32_at words (4 * j) → (not (eqb mask 0) || eqb w 0) ≡ slot_zero bits words j
   slot_joined words w e = rw (mask_says (eqb mask 0) refl, e)
 
--- ---- the eight slots of a byte
+-- the same test of each of the first n
+every_same : (f h : ℕ → Bool) (n : ℕ) → ((j : ℕ) → j < n → f j ≡ h j) → every f n ≡ every h n
+every_same f h zero e = refl
+every_same f h (suc n) e = rw (e n (omega arith), every_same f h n (λ j l. e j (omega arith)))
+
+-- one more; r is its answer
+pub every_next : (f : ℕ → Bool) (a r : Bool) (n : ℕ) → a ≡ every f n → r ≡ f n → (a && r) ≡ every f (n + 1)
+every_next f a r n p q = rw (add-one, p, q) (and_comm (every f n) (f n))
+
+-- ---- the slots of bitmap byte k
 
 module _ (g : List ℕ) (k : ℕ) where
   -- the test of slot j of the byte
@@ -87,61 +89,41 @@ module _ (g : List ℕ) (k : ℕ) where
       λ j h. bit_of g k j h ∙ ap (λ (b : ℕ). eqb (bit b j) 1) e ∙ every_at (λ (j : ℕ). eqb (bit 255 j) 1) 8 refl j h in
       sym (every_all at 8 (λ j h. or_first (present g (8 * k + j)) (eqb (word g (8 * k + j)) 0) (ones j h)))
 
-  -- the code's test of it, by the byte and the 32 bytes that are lent
-  abbrev told : ℕ → Bool
-  told j = slot_zero (get_or g k 0) (take (32 + 32 * k + 32 - (32 + 32 * k)) (drop (32 + 32 * k) g)) j
+  word_place : (j : ℕ) → 32 + 32 * k + 4 * j ≡ 32 + 4 * (8 * k + j)
+  word_place j = omega arith
 
-  module _ (whole : 64 + 32 * k ≤ length g) where
-    told_at : (j : ℕ) → j < 8 → told j ≡ at j
-    told_at j h =
-        let n : 32 + 32 * k + 32 - (32 + 32 * k) ≡ 32 = omega arith in
-        let o : 32 + 32 * k + 4 * j ≡ 32 + 4 * (8 * k + j) = omega arith in
-        rw (n, field_within g (32 + 32 * k) 32 (4 * j) 4 (omega arith) (omega arith), o, bit_of g k j h)
+  -- by the 32 bytes of its words
+  pub eight_told : 64 + 32 * k ≤ length g → (z : Bool) → z ≡ every (slot_zero (get_or g k 0) (take (32 + 32 * k + 32 - (32 + 32 * k)) (drop (32 + 32 * k) g))) 8 → z ≡ eight_zero g k
+  unfolding eight_zero
+  eight_told whole z e =
+      e ∙ every_same (slot_zero (get_or g k 0) (take (32 + 32 * k + 32 - (32 + 32 * k)) (drop (32 + 32 * k) g))) at 8 (λ j h.
+      let n : 32 + 32 * k + 32 - (32 + 32 * k) ≡ 32 = omega arith in
+      rw (n, field_within g (32 + 32 * k) 32 (4 * j) 4 (omega arith) (omega arith), word_place j, bit_of g k j h))
 
-    -- the first j slots, and one more
-    join : {a r : Bool} (j : ℕ) → j < 8 → a ≡ every at j → r ≡ told j → (a && r) ≡ every at (suc j)
-    join j h e p = rw (e, p ∙ told_at j h) (and_comm (every at j) (at j))
+  -- by all the words from its own on
+  abbrev words : List ℕ
+  words = take (length g - (32 + 32 * k)) (drop (32 + 32 * k) g)
 
-    pub eight_joined :
-        {a b c d e f h i : Bool}
-        → a ≡ told 0 → b ≡ told 1 → c ≡ told 2 → d ≡ told 3 → e ≡ told 4 → f ≡ told 5 → h ≡ told 6 → i ≡ told 7
-        → (a && b && c && d && e && f && h && i) ≡ eight_zero g k
-    unfolding eight_zero
-    eight_joined p0 p1 p2 p3 p4 p5 p6 p7 =
-        let two = join 1 (lit< tt) (join {a = true} 0 (lit< tt) refl p0) p1 in
-        let four = join 3 (lit< tt) (join 2 (lit< tt) two p2) p3 in
-        let six = join 5 (lit< tt) (join 4 (lit< tt) four p4) p5 in
-        join 7 (lit< tt) (join 6 (lit< tt) six p6) p7
+  pub slot_told : (j : ℕ) → j < 8 → slot_zero (get_or g k 0) words j ≡ hole_zero g (8 * k + j)
+  slot_told j h = rw (part_from g (32 + 32 * k), field_from g (32 + 32 * k) (4 * j) 4, word_place j, bit_of g k j h)
 
   -- the eight after those of the bytes before
   eight_more : every (hole_zero g) (8 * (k + 1)) ≡ (eight_zero g k && every (hole_zero g) (8 * k))
   unfolding eight_zero
   eight_more = let e : 8 * (k + 1) ≡ 8 * k + 8 = omega arith in ap (every (hole_zero g)) e ∙ every_join (hole_zero g) (8 * k) 8
 
-  -- the walk by bytes; r is the answer for the byte
+  -- r is the answer for the byte
   pub eights_more : (r : Bool) → every (hole_zero g) (8 * k) ≡ true → not r ≡ false → r ≡ eight_zero g k → every (hole_zero g) (8 * (k + 1)) ≡ true
   eights_more r h p e = eight_more ∙ and_both _ _ (yes_of p e) h
 
-  pub eights_stop : (r : Bool) (n : ℕ) → k < n → not r ≡ true → r ≡ eight_zero g k → false ≡ every (hole_zero g) (8 * n)
-  eights_stop r n l p e = sym (every_longer (hole_zero g) (8 * (k + 1)) (8 * n) (omega arith) (eight_more ∙ and_first _ _ (no_of p e)))
+  pub eights_stop : (r : Bool) (n : ℕ) → k < n / 8 → not r ≡ true → r ≡ eight_zero g k → false ≡ every (hole_zero g) n
+  eights_stop r n l p e = sym (every_longer (hole_zero g) (8 * (k + 1)) n (omega arith) (eight_more ∙ and_first _ _ (no_of p e)))
 
-  pub eights_end : (n : ℕ) → every (hole_zero g) (8 * k) ≡ true → k ≤ n → n ≤ k → true ≡ every (hole_zero g) (8 * n)
-  eights_end n h l m = let e : n ≡ k = omega arith in sym (ap (λ (n : ℕ). every (hole_zero g) (8 * n)) e ∙ h)
+  -- r is the answer for slot j of the byte
+  pub slots_more : (j : ℕ) (r : Bool) → j < 8 → every (hole_zero g) (8 * k + j) ≡ true → not r ≡ false → r ≡ slot_zero (get_or g k 0) words j → every (hole_zero g) (8 * k + (j + 1)) ≡ true
+  slots_more j r l h p e =
+      let s : 8 * k + (j + 1) ≡ 8 * k + j + 1 = omega arith in
+      rw s (every_more (hole_zero g) (8 * k + j) h (yes_of p (e ∙ slot_told j l)))
 
--- ---- the walk slot by slot, behind whole bytes
-
--- r is the answer for the whole bytes
-module _ (g : List ℕ) (count : ℕ) (r : Bool) where
-  pub whole_stop : not r ≡ true → r ≡ every (hole_zero g) (8 * (count / 8)) → false ≡ every (hole_zero g) count
-  whole_stop p e = sym (every_longer (hole_zero g) (8 * (count / 8)) count (omega arith) (no_of p e))
-
--- r is the answer for the slot
-module _ (g : List ℕ) (s : ℕ) where
-  pub holes_more : (r : Bool) → every (hole_zero g) s ≡ true → not r ≡ false → r ≡ hole_zero g s → every (hole_zero g) (s + 1) ≡ true
-  holes_more r h p e = every_more (hole_zero g) s h (yes_of p e)
-
-  pub holes_stop : (r : Bool) (count : ℕ) → s < count → not r ≡ true → r ≡ hole_zero g s → false ≡ every (hole_zero g) count
-  holes_stop r count l p e = sym (every_false (hole_zero g) count s l (no_of p e))
-
-  pub holes_end : (count : ℕ) → every (hole_zero g) s ≡ true → s ≤ count → count ≤ s → true ≡ every (hole_zero g) count
-  holes_end count h l m = let e : count ≡ s = omega arith in sym (ap (every (hole_zero g)) e ∙ h)
+  pub slots_stop : (j : ℕ) (r : Bool) (n : ℕ) → j < 8 → 8 * k + j < n → not r ≡ true → r ≡ slot_zero (get_or g k 0) words j → false ≡ every (hole_zero g) n
+  slots_stop j r n l h p e = sym (every_false (hole_zero g) n (8 * k + j) h (no_of p (e ∙ slot_told j l)))

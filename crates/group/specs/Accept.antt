@@ -1,7 +1,7 @@
 -- A checksum group (01, section 6) is accepted exactly when each of these holds; no order is in it.
 use Rattle.std.specs.Prelude.{ℕ, ◌-◌, ◌%◌, ◌≤◌, ◌<◌, ◌≡◌, ◌↔◌, false, List, length}
 use Rattle.error.specs.declared.Validation.{Validation}
-use Rattle.error.specs.declared.Check.TheVariants.{Passed}
+use Rattle.std.specs.Prelude.{Ok}
 use Rattle.octets.specs.Number.{big_at}
 use Rattle.group.specs.Group.{present, word, stored_slots, stored_bytes, max_checksum_group, validate_checksum_group}
 
@@ -24,4 +24,4 @@ pub record GroupHolds (key value : List ℕ) : Type 0 where
 
 -- demand 2 for groups, whatever the mode
 abbrev pub GroupExactly : Type 0
-GroupExactly = (key value : List ℕ) (mode : Validation) → (validate_checksum_group key value mode ≡ Passed) ↔ GroupHolds key value
+GroupExactly = (key value : List ℕ) (mode : Validation) → (validate_checksum_group key value mode ≡ Ok tt) ↔ GroupHolds key value

@@ -1,10 +1,9 @@
 -- Demand 3 for checksum groups (01, "What demand 3 compares"): two accepted groups are the same bytes exactly when all 256 slots agree.
 use Rattle.std.specs.Prelude.{ℕ, ◌<◌, ◌≡◌, ◌↔◌, List}
 use Rattle.error.specs.declared.Validation.{Validation}
-use Rattle.error.specs.declared.Check.TheVariants.{Passed}
+use Rattle.std.specs.Prelude.{Ok}
 use Rattle.octets.specs.Bytes.{Bytes}
-use Rattle.group.specs.declared.Slot.{Slot}
-use Rattle.group.specs.Slots.{presence, word_in}
+use Rattle.group.specs.Slots.{Slot, presence, word_in}
 use Rattle.group.specs.Group.{checksum_slot, expand_group, validate_checksum_group}
 
 -- two slots agree in presence and word
@@ -15,7 +14,7 @@ pub record Same (x y : Slot) : Type 0 where
 -- a group's bytes are accepted with a key and a mode
 pub record Accepted (key group : List ℕ) (mode : Validation) : Type 0 where
   pub bytes : Bytes group
-  pub passed : validate_checksum_group key group mode ≡ Passed
+  pub passed : validate_checksum_group key group mode ≡ Ok tt
 
 -- each group with its own key and mode, lent to `checksum_slot` as stored
 abbrev pub GroupsAgree : Type 0

@@ -1,15 +1,15 @@
 -- Checksum groups (01, section 6): 32 bitmap bytes, then up to 256 words of four bytes.
-use Rattle.std.specs.Prelude.{ℕ, ◌+◌, ◌-◌, ◌*◌, ◌/◌, ◌%◌, ◌^◌, Bool, not, ◌&&◌, ◌||◌, cond, List, [], ◌∷◌, ltb, leb, eqb, length}
+use Rattle.std.specs.Prelude.{ℕ, ◌+◌, ◌-◌, ◌*◌, ◌/◌, ◌%◌, ◌^◌, Bool, not, ◌&&◌, ◌||◌, cond, List, [], ◌∷◌, ltb, leb, eqb, length, Some, None, Ok}
 use Rattle.error.specs.declared.Error.TheVariants.{Corrupt}
 use Rattle.error.specs.declared.Validation.{Validation}
-use Rattle.error.specs.declared.Check.{Check}
+use Rattle.error.specs.Answer.{Check}
 use Rattle.error.specs.Answer.{violation_of}
 use Rattle.error.specs.Demand.{Demand, ◌otherwise◌, outcome, demands}
 use Rattle.error.specs.Reason as reason
 use Rattle.octets.specs.Below.{every, through}
 use Rattle.octets.specs.Bytes.{bit_set, padded_to}
 use Rattle.octets.specs.Number.{u32_at, big_at, within}
-use Rattle.group.specs.declared.Slot.{Slot}
+use Rattle.group.specs.Slots.{Slot}
 
 -- slot s is present if bit s % 8 of byte s / 8 is set
 abbrev pub present : List ℕ → ℕ → Bool
@@ -36,7 +36,7 @@ slot_demands g s =
 
 -- `checksum_slot`: the first that fails answers; else the word of a present slot, or that it is a hole
 unfoldable pub checksum_slot : List ℕ → ℕ → Slot
-checksum_slot g s = outcome (slot_demands g s) Slot.Refused (cond (present g s) (Slot.Word (word g s)) Slot.Hole)
+checksum_slot g s = outcome (slot_demands g s) (Ok (cond (present g s) (Some (word g s)) None))
 
 -- `compact_group`: how many bytes of the group's front: those of its stored form; of another length than 1,056 none
 unfoldable pub compact_bytes : List ℕ → ℕ

@@ -1,5 +1,5 @@
-pub mod Group
 pub mod Slots
+pub mod Group
 pub mod Accept
 pub mod Agree
 pub mod Cases

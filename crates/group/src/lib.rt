@@ -6,40 +6,35 @@ ghost use Rattle.octets.specs.Below.{every};
 ghost use Rattle.octets.specs.Bytes.{IsPart};
 ghost use Rattle.group.specs.Group.{checksum_slot, compact_bytes, expand_group, validate_checksum_group, stored_slots, right_size, is_compact, hole_zero, holes_zero};
 ghost use Rattle.group.specs.Accept.{Sized};
-ghost use Rattle.group.specs.Inside.{slot_zero, eight_zero};
+ghost use Rattle.group.specs.Inside.{IsLastNonzero, slot_zero, eight_zero};
 
-use error::{Check, Error, Validation, reason};
+use error::{Error, Validation, reason};
 
 // Bytes of the full form.
 pub const CHECKSUM_GROUP_BYTES: usize = 1056;
 
 const MAX_CHECKSUM_GROUP: u64 = 9223372036854775807 / (256 * 65536);
 
-// What a slot of a group holds.
-#[derive(Clone, Copy)]
-pub enum Slot {
-    Hole,
-    Word(u32),
-    Refused(Error),
-}
-
-// The word in a slot, or that the slot is a hole.
-pub fn checksum_slot(group: &[u8], slot: usize) -> Slot
+// The word in a slot, nothing of a hole.
+#[tactic(auto, unfolding(crate::specs::Group::checksum_slot, error::specs::Demand::outcome))]
+pub fn checksum_slot(group: &[u8], slot: usize) -> Result<Option<u32>, Error>
     ensures { result ≡ checksum_slot group.now slot }
 {
-    if slot >= 256 {
-        return Slot::Refused(Error::Corrupt(reason::CHECKSUM_GROUP_SLOT));
-    }
-    if group.len() < 32 {
-        return Slot::Refused(Error::Corrupt(reason::CHECKSUM_GROUP_SLOT));
+    if slot >= 256 || group.len() < 32 {
+        return Err(Error::Corrupt(reason::CHECKSUM_GROUP_SLOT));
     }
     if group[slot / 8] & (1 << (slot % 8)) == 0 {
-        return Slot::Hole;
+        return Ok(None);
     }
-    if group.len() < 32 + 4 * slot + 4 {
-        return Slot::Refused(Error::Corrupt(reason::CHECKSUM_GROUP_SLOT));
-    }
-    Slot::Word(octets::u32_at(group, 32 + 4 * slot))
+    let word = octets::read_u32_le(group, 32 + 4 * slot, reason::CHECKSUM_GROUP_SLOT)?;
+    Ok(Some(word))
+}
+
+// The last byte of a bitmap that isn't 0.
+fn last_nonzero(bitmap: &[u8]) -> Option<usize>
+    ensures { IsLastNonzero bitmap.now result }
+{
+    bitmap.iter().rposition(|&byte| byte != 0)
 }
 
 // How many slots the stored form of a group holds: through the last present one.
@@ -47,18 +42,14 @@ fn stored_slots(group: &[u8]) -> usize
     requires { 32 ≤ length group.now }
     ensures { (result ≡ stored_slots group.now) × (result ≤ 256) }
 {
-    let mut n: usize = 32;
-    while n > 0 {
-        let byte = group[n - 1];
-        if byte != 0 {
-            return 8 * n - u8::leading_zeros(byte) as usize;
-        }
-        n -= 1;
-    }
-    0
+    let Some(index) = last_nonzero(&group[..32]) else {
+        return 0;
+    };
+    8 * index + 8 - group[index].leading_zeros() as usize
 }
 
 // The stored form of a group: its bitmap and the slots through the last present one. Of another length than 1,056 nothing.
+#[tactic(auto, unfolding(crate::specs::Group::compact_bytes))]
 pub fn compact_group(group: &[u8]) -> &[u8]
     ensures { IsPart group.entry 0 (compact_bytes group.now) result }
 {
@@ -70,24 +61,17 @@ pub fn compact_group(group: &[u8]) -> &[u8]
 }
 
 // The full form: the bytes lent, at most the first 1,056, and zeros after them.
-pub fn expand_group(value: &[u8]) -> [u8; 1056]
+pub fn expand_group(value: &[u8]) -> [u8; CHECKSUM_GROUP_BYTES]
     ensures { result ≡ expand_group value.now }
 {
-    let mut group = [0u8; 1056];
-    octets::put(&mut group, 0, value);
-    group
+    octets::padded::<CHECKSUM_GROUP_BYTES>(value)
 }
 
+#[tactic(auto, unfolding(crate::specs::Group::right_size))]
 fn right_size(n: usize) -> bool
     ensures { result ≡ right_size n }
 {
-    if n < 36 {
-        return false;
-    }
-    if n > CHECKSUM_GROUP_BYTES {
-        return false;
-    }
-    (n - 32) % 4 == 0
+    n >= 36 && n <= CHECKSUM_GROUP_BYTES && (n - 32) % 4 == 0
 }
 
 // Whether the last stored slot's bit is set and no bit above it is: one encoding per group, and never an empty one.
@@ -97,25 +81,11 @@ fn is_compact(value: &[u8]) -> bool
 {
     let last = (value.len() - 32) / 4 - 1;
     let byte = last / 8;
-    if value[byte] >> (last % 8) != 1 {
-        return false;
-    }
-    let next = byte + 1;
-    octets::all_zero(&value[next..32])
+    value[byte] >> (last % 8) == 1 && octets::all_zero(&value[byte + 1..32])
 }
 
-// Whether a slot is present or holds zero.
-fn hole_zero(group: &[u8], slot: usize) -> bool
-    requires { (32 ≤ length group.now) × (slot < 256) }
-    ensures { result ≡ hole_zero group.now slot }
-{
-    if group[slot / 8] & (1 << (slot % 8)) != 0 {
-        return true;
-    }
-    octets::u32_at(group, 32 + 4 * slot) == 0
-}
-
-// The same of slot j of a bitmap byte, by the byte and its eight words; no branch but in the read.
+// Whether slot j of a bitmap byte is present or holds zero, by the byte and its words; no branch but in the read.
+#[tactic(auto, using(crate::proofs::Holes::slot_joined))]
 fn slot_zero(bits: u8, words: &[u8], j: usize) -> bool
     requires { j < 8 }
     ensures { result ≡ slot_zero bits words.now j }
@@ -124,6 +94,7 @@ fn slot_zero(bits: u8, words: &[u8], j: usize) -> bool
 }
 
 // The same of the eight slots of bitmap byte k. Their words are lent as 32 bytes: the reads need not ask where the group ends.
+#[tactic(auto, using(crate::proofs::Holes::eight_present, crate::proofs::Holes::every_next))]
 fn eight_zero(group: &[u8], k: usize) -> bool
     requires { (64 + 32 * k ≤ length group.now) × (k < 32) }
     ensures { result ≡ eight_zero group.now k }
@@ -133,52 +104,37 @@ fn eight_zero(group: &[u8], k: usize) -> bool
         return true;
     }
     let start = 32 + 32 * k;
-    let end = start + 32;
-    let words = &group[start..end];
-    slot_zero(bits, words, 0)
-        & slot_zero(bits, words, 1)
-        & slot_zero(bits, words, 2)
-        & slot_zero(bits, words, 3)
-        & slot_zero(bits, words, 4)
-        & slot_zero(bits, words, 5)
-        & slot_zero(bits, words, 6)
-        & slot_zero(bits, words, 7)
-}
-
-// Whether each hole among the slots of the first n bitmap bytes holds zero.
-fn eights_zero(group: &[u8], n: usize) -> bool
-    requires { (32 + 32 * n ≤ length group.now) × (n ≤ 32) }
-    ensures { result ≡ every (hole_zero group.now) (8 * n) }
-{
-    let mut k = 0;
-    while k < n {
-        if !eight_zero(group, k) {
-            return false;
-        }
-        k += 1;
+    let words = &group[start..start + 32];
+    let mut zero = true;
+    for j in 0..8 {
+        zero &= slot_zero(bits, words, j);
     }
-    true
+    zero
 }
 
-// Whether each hole among the first slots holds zero: whole bitmap bytes first, then slot by slot.
+// Whether each hole among the first slots holds zero: whole bitmap bytes first, then the slots of the last one.
+#[tactic(auto, using(crate::proofs::Holes::eights_more, crate::proofs::Holes::eights_stop, crate::proofs::Holes::slots_more, crate::proofs::Holes::slots_stop))]
 fn first_holes_zero(group: &[u8], count: usize) -> bool
     requires { (32 + 4 * count ≤ length group.now) × (count ≤ 256) }
     ensures { result ≡ every (hole_zero group.now) count }
 {
-    if !eights_zero(group, count / 8) {
-        return false;
-    }
-    let mut s = 8 * (count / 8);
-    while s < count {
-        if !hole_zero(group, s) {
+    let whole = count / 8;
+    for k in 0..whole {
+        if !eight_zero(group, k) {
             return false;
         }
-        s += 1;
+    }
+    let words = &group[32 + 32 * whole..];
+    for j in 0..count % 8 {
+        if !slot_zero(group[whole], words, j) {
+            return false;
+        }
     }
     true
 }
 
 // Whether each hole of a compact value holds zero.
+#[tactic(auto, using(crate::proofs::Compact::holes_of))]
 fn holes_zero(value: &[u8]) -> bool
     requires { Sized (length value.now) × (is_compact value.now ≡ true) }
     ensures { result ≡ holes_zero value.now }
@@ -187,23 +143,21 @@ fn holes_zero(value: &[u8]) -> bool
 }
 
 // Check a packed checksum group; a key under 17 bytes is refused first.
-pub fn validate_checksum_group(key: &[u8], value: &[u8], mode: Validation) -> Check
+#[tactic(auto, unfolding(crate::specs::Group::validate_checksum_group, error::specs::Demand::outcome))]
+pub fn validate_checksum_group(key: &[u8], value: &[u8], mode: Validation) -> Result<(), Error>
     ensures { result ≡ validate_checksum_group key.now value.now mode }
 {
     if key.len() < 17 {
-        return Check::Refused(error::violation(mode, reason::INVALID_CATALOG_KEY));
+        return Err(error::violation(mode, reason::INVALID_CATALOG_KEY));
     }
-    if octets::big_at(key, 9) > MAX_CHECKSUM_GROUP {
-        return Check::Refused(error::violation(mode, reason::INVALID_CHECKSUM_GROUP));
-    }
-    if !right_size(value.len()) {
-        return Check::Refused(error::violation(mode, reason::INVALID_CHECKSUM_GROUP));
+    if octets::big_at(key, 9) > MAX_CHECKSUM_GROUP || !right_size(value.len()) {
+        return Err(error::violation(mode, reason::INVALID_CHECKSUM_GROUP));
     }
     if !is_compact(value) {
-        return Check::Refused(error::violation(mode, reason::CHECKSUM_GROUP_IS_NOT_COMPACT));
+        return Err(error::violation(mode, reason::CHECKSUM_GROUP_IS_NOT_COMPACT));
     }
     if !holes_zero(value) {
-        return Check::Refused(error::violation(mode, reason::HOLE_CHECKSUM_IS_NONZERO));
+        return Err(error::violation(mode, reason::HOLE_CHECKSUM_IS_NONZERO));
     }
-    Check::Passed
+    Ok(())
 }

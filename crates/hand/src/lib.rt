@@ -2,21 +2,17 @@
 #![tactic(auto)]
 
 ghost use Rattle.std.specs.Prelude.{◌≡◌, length};
-ghost use Rattle.lookup.specs.Floor.{scratch_of};
+ghost use Rattle.lookup.specs.Floor.{scratch_of, next_record};
 ghost use Rattle.page.specs.Page.{decode_page};
-ghost use Rattle.hand.specs.Hand.{first_numbers, lookup_first, scratch_in, hand_out};
+ghost use Rattle.hand.specs.Hand.{step_numbers, lookup_first, scratch_in, hand_out};
 
-use page::Expected;
+use error::Error;
 use page::view::{PageView, Records};
 use volume::{TreeKind, TreeRef};
 
-// A floor record's numbers, and the record that `next` gives first of it: whether there is one, its key's and value's lengths and checksums, and how many are left.
+// A record that is handed out: its key's and value's lengths and checksums, and how many records are left after it.
 #[derive(Clone, Copy)]
-pub struct First {
-    pub found: bool,
-    pub index: usize,
-    pub remaining: usize,
-    pub given: bool,
+pub struct Given {
     pub key_len: usize,
     pub key_sum: u32,
     pub value_len: usize,
@@ -24,84 +20,73 @@ pub struct First {
     pub left: usize,
 }
 
-fn first_numbers<'a>(
-    found: bool,
-    index: usize,
-    remaining: usize,
-    given: bool,
-    key: &'a [u8],
-    value: &'a [u8],
-    left: usize,
-) -> First
-    ensures { result ≡ first_numbers found index remaining given key.now value.now left }
+// A floor record's index, how many records there are from it on, and the one that `next` gives first of them, if any.
+#[derive(Clone, Copy)]
+pub struct First {
+    pub index: usize,
+    pub remaining: usize,
+    pub given: Option<Given>,
+}
+
+// The record that `next` gives first of some records.
+fn first_given(mut records: Records<'_>) -> Option<Given>
+    ensures { result ≡ step_numbers records.entry.payload.now (next_record records.entry.payload.now records.entry.remaining) }
 {
-    First {
-        found,
-        index,
-        remaining,
-        given,
+    let (key, value) = records.next()?;
+    Some(Given {
         key_len: key.len(),
         key_sum: crc::crc32c(key),
         value_len: value.len(),
         value_sum: crc::crc32c(value),
-        left,
-    }
+        left: records.remaining,
+    })
 }
 
 // The record that a lookup on a view hands out first.
-pub fn lookup_first<'a>(view: PageView<'a>, key: &[u8], offsets: &mut [u16]) -> First
-    ensures { (result ≡ lookup_first view.entry.payload.now view.entry.count key.now (length offsets.old)) × (offsets.new ≡ scratch_of view.entry.payload.now view.entry.count offsets.old) }
+#[tactic(auto, unfolding(crate::specs::Hand::lookup_first))]
+pub fn lookup_first(view: PageView<'_>, key: &[u8], offsets: &mut [u16]) -> Option<First>
+    ensures first { result ≡ lookup_first view.entry.payload.now view.entry.count key.now (length offsets.old) }
+    ensures scratch { offsets.new ≡ scratch_of view.entry.payload.now view.entry.count offsets.old }
 {
-    let floor = view.floor_record(key, offsets);
-    let records = Records {
-        payload: floor.payload,
-        remaining: floor.remaining,
-    };
-    let next = records.next();
-    first_numbers(
-        floor.found,
-        floor.index,
-        floor.remaining,
-        next.found,
-        next.key,
-        next.value,
-        next.remaining,
-    )
+    let (index, records) = view.floor_record(key, offsets)?;
+    Some(First {
+        index,
+        remaining: records.remaining,
+        given: first_given(records),
+    })
 }
 
-// What a page's view states, and what a lookup on it hands out first.
+// What a page's view states, and what a lookup on it hands out first, if anything.
 #[derive(Clone, Copy)]
 pub struct Handed {
-    pub class: u16,
-    pub reason: u16,
     pub level: u8,
     pub data_blocks: u64,
     pub count: usize,
-    pub first: First,
+    pub first: Option<First>,
 }
 
 // Validate the page that the reference names, look the key up on its view, and take the first record.
-pub fn hand_out<'a>(
-    page: &'a [u8],
+// Kept: the parameters of `decode_page`, which are the Rust's, and the lookup's.
+pub fn hand_out(
+    page: &[u8],
     reference: TreeRef,
     uuid: &[u8; 16],
     kind: TreeKind,
     parent: u64,
-    expected: Expected,
+    expected: Option<u8>,
     blocks: u64,
     key: &[u8],
     offsets: &mut [u16],
-) -> Handed
-    ensures { (result ≡ hand_out reference uuid.now kind parent expected blocks page.now key.now (length offsets.old)) × (offsets.new ≡ scratch_in (decode_page reference uuid.now kind parent expected blocks page.now) page.now offsets.old) }
+) -> Result<Handed, Error>
+    ensures handed { result ≡ hand_out reference uuid.now kind parent expected blocks page.now key.now (length offsets.old) }
+    ensures scratch { offsets.new ≡ scratch_in (decode_page reference uuid.now kind parent expected blocks page.now) page.now offsets.old }
 {
-    let view = page::decode_page(page, reference, uuid, kind, parent, expected, blocks);
+    let view = page::decode_page(page, reference, uuid, kind, parent, expected, blocks)?;
     let first = lookup_first(view, key, offsets);
-    Handed {
-        class: view.class,
-        reason: view.reason,
+    Ok(Handed {
         level: view.level,
         data_blocks: view.data_blocks,
         count: view.count,
         first,
-    }
+    })
 }

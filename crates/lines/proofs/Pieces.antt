@@ -10,7 +10,12 @@ use Rattle.octets.specs.Bytes.{Laid}
 use Rattle.report.specs.Text.{number_fields}
 use Rattle.calls.specs.declared.Fields.{Fields}
 use Rattle.calls.specs.Told.{told}
-use Rattle.calls.specs.Given.{selected_fields}
+use Rattle.std.specs.Prelude.{Option, Some, None, Result, Ok, Err}
+use Rattle.lookup.specs.declared.Answer.{Answer}
+use Rattle.carryfs.specs.Words.{floor_words}
+use Rattle.error.specs.declared.Error.{Error}
+use Rattle.root.specs.declared.Selected.{Selected}
+use Rattle.calls.specs.Given.{which_fields, selected_fields}
 use Rattle.lines.specs.Inside.{shown}
 
 -- nothing is laid
@@ -42,6 +47,15 @@ less_none x = omega arith
 pub fields_as : {out last : List ℕ} {at r : ℕ} (xs : List ℕ) {f : Fields} → f ≡ told xs → length xs ≤ 7 → Laid out at (number_fields (shown f.count f.values)) last r → Laid out at (number_fields xs) last r
 fields_as xs e l p = rw (e, shown_told xs l) at p
 
+which_few : (s : Result Selected Error) → length (which_fields s) ≤ 7
+which_few (Ok s) = leb-true 3 7 refl
+which_few (Err e) = leb-true 3 7 refl
+
 pub selected_few : (call : List ℕ) → length (selected_fields call) ≤ 7
 unfolding selected_fields
-selected_few call = leb-true 3 7 refl
+selected_few call = which_few _
+
+pub floor_few : (a : Option Answer) → length (floor_words a) ≤ 7
+unfolding floor_words
+floor_few (Some a) = leb-true 4 7 refl
+floor_few None = leb-true 4 7 refl

@@ -1,17 +1,18 @@
 -- The line of a call of probe (docs/PROBE.md, "Output"): the call's place, its fields, a line feed. Numbers in decimal, strings as `x` and lowercase hexadecimal, parted by single spaces.
-use Rattle.std.specs.Prelude.{ℕ, ◌+◌, cond, List, [], ◌∷◌, ◌++◌, eqb, leb, length, drop, replicate}
-use Rattle.error.specs.Answer.{check_class, check_reason}
+use Rattle.std.specs.Prelude.{ℕ, ◌+◌, cond, List, [], ◌∷◌, ◌++◌, eqb, leb, length, drop, replicate, Result, Ok, Err}
+use Rattle.error.specs.declared.Error.{Error}
+use Rattle.error.specs.Answer.{class_of, reason_of}
 use Rattle.octets.specs.Bytes.{byte_at, part}
 use Rattle.octets.specs.Number.{u32_at}
 use Rattle.group.specs.Group.{expand_group}
 use Rattle.lookup.specs.Floor.{floor_answer, scratch_of}
 use Rattle.hand.specs.Hand.{scratch_in}
-use Rattle.root.specs.declared.NewLabel.{NewLabel}
-use Rattle.root.specs.declared.Decoded.{Decoded}
+use Rattle.root.specs.declared.Label.{Label}
+use Rattle.root.specs.declared.Root.{Root}
 use Rattle.root.specs.Label.{label_new}
 use Rattle.root.specs.Root.{root_decode}
 use Rattle.report.specs.Text.{decimal, number_fields, hex_field, entries_field}
-use Rattle.carryfs.specs.Words.{floor_words, root_words}
+use Rattle.carryfs.specs.Words.{floor_words, label_bytes, root_words}
 use Rattle.calls.specs.declared.Numbers.{Numbers}
 use Rattle.calls.specs.Told.{at_most}
 use Rattle.calls.specs.Table.{page_asked, fields_of}
@@ -34,22 +35,18 @@ strings_in input = drop (strings_at (byte_at input 0)) input
 
 -- ---- the calls that tell strings
 
--- all of a text beside an accepted answer, nothing beside a refusal
-abbrev pub beside : ℕ → List ℕ → List ℕ
-beside class text = cond (eqb class 0) text []
+-- call 33: class, reason, length, the 255 bytes; beside a refusal no bytes
+abbrev pub label_told : Result Label Error → List ℕ
+label_told (Ok l) = number_fields (0 ∷ 0 ∷ l.len ∷ []) ++ hex_field l.bytes
+label_told (Err e) = number_fields (class_of e ∷ reason_of e ∷ 0 ∷ []) ++ hex_field []
 
--- call 33: class, reason, length, the 255 bytes
-abbrev pub label_told : NewLabel → List ℕ
-label_told made =
-    number_fields (check_class made.answer ∷ check_reason made.answer ∷ made.label.len ∷ [])
-    ++ hex_field (beside (check_class made.answer) made.label.bytes)
-
--- a root's UUID and its label's bytes
-unfoldable pub named_told : Decoded → List ℕ
-named_told d = hex_field (beside (check_class d.answer) d.root.uuid) ++ hex_field (beside (check_class d.answer) d.root.label.bytes)
+-- a root's UUID and its label's bytes; beside a refusal none of either
+unfoldable pub named_told : Result Root Error → List ℕ
+named_told (Ok r) = hex_field r.uuid ++ hex_field (label_bytes r.label)
+named_told (Err e) = hex_field [] ++ hex_field []
 
 -- call 34: its numbers, the UUID, the label's bytes
-unfoldable pub root_told : Decoded → List ℕ
+unfoldable pub root_told : Result Root Error → List ℕ
 root_told d = number_fields (root_words d) ++ named_told d
 
 -- what is told with a scratch of so many entries; nothing above 4,096, which no call within the limits has

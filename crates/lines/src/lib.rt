@@ -2,18 +2,20 @@
 // Each function that is lent `out` lays its text into the buffer from `at` on and returns the place behind it; what the buffer has no room for is left out.
 #![tactic(auto)]
 
-ghost use Rattle.std.specs.Prelude.{◌≡◌, replicate};
+ghost use Rattle.std.specs.Prelude.{◌≡◌, [], ◌∷◌, ◌++◌, replicate};
+ghost use Rattle.error.specs.Answer.{class_of, reason_of};
 ghost use Rattle.octets.specs.Bytes.{Laid};
 ghost use Rattle.group.specs.Group.{expand_group};
 ghost use Rattle.root.specs.Label.{label_new};
 ghost use Rattle.root.specs.Root.{root_decode};
 ghost use Rattle.report.specs.Text.{number_fields, hex_field};
-ghost use Rattle.lines.specs.Line.{string_of, behind_string, strings_in, beside, label_told, named_told, root_told, lent, floor_told, handed_told, answer_told, call_told, call_line};
+ghost use Rattle.lines.specs.Line.{string_of, behind_string, strings_in, label_told, named_told, root_told, lent, floor_told, handed_told, answer_told, call_told, call_line};
 ghost use Rattle.calls.specs.Told.{at_most};
 ghost use Rattle.lines.specs.Inside.{shown};
 
 use calls::{Fields, Numbers, lookups};
-use root::{Decoded, Label, Root};
+use error::Error;
+use root::{Label, Root};
 
 // The string whose length stands at the front.
 fn string(rest: &[u8]) -> &[u8]
@@ -59,45 +61,58 @@ fn expanded(value: &[u8], out: &mut [u8], at: usize) -> usize
     report::hex_field(out, at, &group)
 }
 
-// All of a text beside an accepted answer, nothing beside a refusal.
-fn put_text(class: u64, text: &[u8], out: &mut [u8], at: usize) -> usize
-    ensures { Laid out.old at (hex_field (beside class text.now)) out.new result }
+// A label that was made: its length, and all its bytes.
+fn made(label: &Label, out: &mut [u8], at: usize) -> usize
+    ensures { Laid out.old at (number_fields (0 ∷ 0 ∷ label.now.len ∷ []) ++ hex_field label.now.bytes) out.new result }
 {
-    if class == 0 {
-        return report::hex_field(out, at, text);
-    }
-    report::hex_field(out, at, b"")
+    let told = report::number_fields(out, at, &[0, 0, u64::from(label.len)]);
+    report::hex_field(out, told, &label.bytes)
+}
+
+// The same of a refusal: class, reason, no length and no bytes.
+fn unmade(e: Error, out: &mut [u8], at: usize) -> usize
+    ensures { Laid out.old at (number_fields (class_of e ∷ reason_of e ∷ 0 ∷ []) ++ hex_field []) out.new result }
+{
+    let answer = [
+        u64::from(error::class_of(e)),
+        u64::from(error::reason_of(e)),
+        0,
+    ];
+    let told = report::number_fields(out, at, &answer);
+    report::hex_field(out, told, b"")
 }
 
 // Call 33.
 fn label(given: &[u8], out: &mut [u8], at: usize) -> usize
     ensures { Laid out.old at (label_told (label_new given.now)) out.new result }
 {
-    let made = Label::new(given);
-    let answer = made.answer;
-    let label = made.label;
-    let class = error::check_class(answer) as u64;
-    let values = [class, error::check_reason(answer) as u64, label.len as u64];
-    let told = report::number_fields(out, at, &values);
-    let bytes = label.bytes;
-    put_text(class, &bytes, out, told)
+    match Label::new(given) {
+        Ok(label) => made(&label, out, at),
+        Err(e) => unmade(e, out, at),
+    }
 }
 
-// The UUID, then the label's bytes.
-fn named(d: Decoded, out: &mut [u8], at: usize) -> usize
+// Two texts in hexadecimal.
+fn pair(first: &[u8], second: &[u8], out: &mut [u8], at: usize) -> usize
+    ensures { Laid out.old at (hex_field first.now ++ hex_field second.now) out.new result }
+{
+    let behind = report::hex_field(out, at, first);
+    report::hex_field(out, behind, second)
+}
+
+// A root's UUID, then its label's bytes; beside a refusal none of either.
+#[tactic(auto, unfolding(crate::specs::Line::named_told))]
+fn named(d: Result<Root, Error>, out: &mut [u8], at: usize) -> usize
     ensures { Laid out.old at (named_told d) out.new result }
 {
-    let answer = d.answer;
-    let root = d.root;
-    let label = root.label;
-    let uuid = root.uuid;
-    let bytes = label.bytes;
-    let class = error::check_class(answer) as u64;
-    let behind = put_text(class, &uuid, out, at);
-    put_text(class, &bytes, out, behind)
+    match d {
+        Ok(root) => pair(&root.uuid, &carryfs::label_bytes(root.label), out, at),
+        Err(_) => pair(b"", b"", out, at),
+    }
 }
 
 // Call 34.
+#[tactic(auto, unfolding(crate::specs::Line::root_told))]
 fn decoded(n: Numbers, block: &[u8], out: &mut [u8], at: usize) -> usize
     ensures { Laid out.old at (root_told (root_decode block.now n.a n.b)) out.new result }
 {
@@ -107,6 +122,7 @@ fn decoded(n: Numbers, block: &[u8], out: &mut [u8], at: usize) -> usize
     named(d, out, told)
 }
 
+#[tactic(auto, unfolding(crate::specs::Line::floor_told))]
 fn floor_over(
     n: Numbers,
     payload: &[u8],
@@ -134,6 +150,7 @@ fn floor(n: Numbers, payload: &[u8], key: &[u8], out: &mut [u8], at: usize) -> u
     floor_over(n, payload, key, &mut scratch[0..length], out, at)
 }
 
+#[tactic(auto, unfolding(crate::specs::Line::handed_told))]
 fn handed_over(
     n: Numbers,
     uuid: &[u8],
@@ -162,6 +179,7 @@ fn handed(n: Numbers, uuid: &[u8], page: &[u8], key: &[u8], out: &mut [u8], at: 
     handed_over(n, uuid, page, key, &mut scratch[0..length], out, at)
 }
 
+#[tactic(auto, unfolding(crate::specs::Line::answer_told))]
 fn answer(call: u8, n: Numbers, a: &[u8], b: &[u8], out: &mut [u8], at: usize) -> usize
     ensures { Laid out.old at (answer_told call n a.now b.now) out.new result }
 {
@@ -174,6 +192,7 @@ fn answer(call: u8, n: Numbers, a: &[u8], b: &[u8], out: &mut [u8], at: usize) -
     }
 }
 
+#[tactic(auto, unfolding(crate::specs::Line::call_told))]
 fn told(input: &[u8], out: &mut [u8], at: usize) -> usize
     ensures { Laid out.old at (call_told input.now) out.new result }
 {
@@ -193,6 +212,7 @@ fn told(input: &[u8], out: &mut [u8], at: usize) -> usize
 }
 
 // The line of a call whose place is given.
+#[tactic(auto, unfolding(crate::specs::Line::call_line))]
 pub fn call_line(out: &mut [u8], at: usize, place: u64, input: &[u8]) -> usize
     ensures { Laid out.old at (call_line place input.now) out.new result }
 {

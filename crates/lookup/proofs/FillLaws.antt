@@ -9,7 +9,7 @@ use lib.ListN.{length, take, drop, set, take-append-drop}
 use lib.Seq.{take-suc-set, drop-set-lt, drop-drop, set_split}
 use Rattle.lookup.specs.Record.{split_record, is_record}
 use Rattle.lookup.specs.Floor.{next_offset, written, unbroken, over}
-use Rattle.lookup.specs.declared.Split.TheVariants.{Broken}
+use Rattle.std.specs.Prelude.{None}
 
 -- the scratch once the loop has run to its end from record i at p on, with n records left
 abbrev pub filled : List ℕ → ℕ → ℕ → ℕ → List ℕ → List ℕ
@@ -25,7 +25,7 @@ module _ (part : List ℕ) (m n p i : ℕ) (s : List ℕ) (left : m ≡ suc n) w
   unfolding written
   fill_step e h f r = rw (left, written, r, f) (one_more s i p (written part n (next_offset part p)) h)
 
-  pub fill_break : i < length s → split_record (drop p part) ≡ Broken → set s i p ≡ filled part m p i s
+  pub fill_break : i < length s → split_record (drop p part) ≡ None → set s i p ≡ filled part m p i s
   unfolding written
   fill_break h e = rw (left, written, e, set_split s i p h, drop-drop 1 i s, add-one)
 
@@ -33,7 +33,7 @@ module _ (part : List ℕ) (m n p i : ℕ) (s : List ℕ) (left : m ≡ suc n) w
   unfolding unbroken
   unbroken_step e f r = rw (left, unbroken, r, f)
 
-  pub unbroken_break : split_record (drop p part) ≡ Broken → false ≡ unbroken part m p
+  pub unbroken_break : split_record (drop p part) ≡ None → false ≡ unbroken part m p
   unfolding unbroken
   unbroken_break e = rw (left, unbroken, e)
 

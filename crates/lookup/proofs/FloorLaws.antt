@@ -1,18 +1,19 @@
 -- The offsets that are written, and the whole lookup, by the tests that the code makes.
-use mathlib.Core.Path.{◌≡◌, refl, ap}
+use mathlib.Core.Path.{◌≡◌, refl, sym, ap}
 use mathlib.Core.Bool.{Bool, true, false, ◌&&◌, cond}
-use mathlib.Core.List.{List, []}
+use mathlib.Core.List.{List, [], ◌++◌, append_assoc, append-nil}
 use Prim.Native.Nat.{ℕ, zero, suc, ◌+◌, ◌-◌, ◌/◌, ◌<◌, ◌≤◌}
 use native.Mathlib.Omega.{arith}
 use lib.Dec.{ltb}
-use lib.ListN.{length, get_or, drop, length-drop, get_or-append}
+use lib.ListN.{length, get_or, take, drop, length-drop, take-append-drop}
+use Rattle.std.proofs.lemmas.List.{length-take-le, drop-append-le, drop_all}
 use borrow.Author.Tests.{lt-ltb, le-ltb, ltb-true}
 use Rattle.lookup.specs.Record.{split_record, is_record}
 use Rattle.lookup.specs.Floor.{next_offset, written, unbroken, over, above_at, bisect, before, walk_floor, floor_at, scratch_of}
-use Rattle.lookup.specs.declared.Split.{Split}
-use Rattle.lookup.specs.declared.Split.TheVariants.{Record, Broken}
+use Rattle.lookup.specs.declared.Lengths.{Lengths}
 use Rattle.lookup.specs.declared.Floor.{Floor}
-use Rattle.lookup.specs.declared.Floor.TheVariants.{At, Nothing}
+use Rattle.std.specs.Prelude.{Option, Some, None}
+use Rattle.std.proofs.lemmas.Option.{same_Some}
 use Rattle.error.proofs.Tests.{and_left, and_right}
 use Rattle.lookup.proofs.RecordLaws.{split_fits}
 
@@ -21,9 +22,9 @@ module _ (part : List ℕ) where
   pub next_within : (p : ℕ) → p ≤ length part → next_offset part p ≤ length part
   next_within p l = go (split_record (drop p part)) refl
     where
-      go : (r : Split) → split_record (drop p part) ≡ r → next_offset part p ≤ length part
-      go (Record k v) e = rw e (omega (arith, split_fits (drop p part) k v e, length-drop p part))
-      go Broken e = rw e (omega arith)
+      go : (r : Option Lengths) → split_record (drop p part) ≡ r → next_offset part p ≤ length part
+      go (Some l) e = rw e (omega (arith, split_fits (drop p part) l e, length-drop p part))
+      go None e = rw e (omega arith)
 
   pub written_length : (n p : ℕ) → unbroken part n p ≡ true → length (written part n p) ≡ n
   unfolding written unbroken
@@ -34,6 +35,16 @@ module _ (part : List ℕ) where
       go true h e = ap suc (h e)
       go false h e = let z : ◌≡◌ {A = ℕ} 0 1 = cc in absurd (omega arith)
 
+  -- at most one is written for each record
+  pub written_most : (n p : ℕ) → length (written part n p) ≤ n
+  unfolding written
+  written_most zero p = omega arith
+  written_most (suc n) p = go (is_record (split_record (drop p part))) (written_most n (next_offset part p))
+    where
+      go : (b : Bool) → length (written part n (next_offset part p)) ≤ n → suc (length (cond b (written part n (next_offset part p)) [])) ≤ suc n
+      go true h = omega arith
+      go false h = omega arith
+
   -- where none is broken, each offset that is written is a record's
   pub written_whole : (n p k : ℕ) → unbroken part n p ≡ true → k < n → is_record (split_record (drop (get_or (written part n p) k 0) part)) ≡ true
   unfolding written unbroken
@@ -42,24 +53,6 @@ module _ (part : List ℕ) where
   written_whole (suc n) p (suc k) u l =
       rw (and_left (is_record (split_record (drop p part))) (unbroken part n (next_offset part p)) u)
       (written_whole n (next_offset part p) k (and_right (is_record (split_record (drop p part))) (unbroken part n (next_offset part p)) u) (omega arith))
-
-module _ (part key o q : List ℕ) (n : ℕ) (same : (k : ℕ) → k < n → get_or o k 0 ≡ get_or q k 0) where
-  -- a bisection reads the offsets below its end alone
-  pub bisect_agree : (fuel low high : ℕ) → high ≤ n → bisect part key o fuel low high ≡ bisect part key q fuel low high
-  unfolding bisect
-  bisect_agree zero low high l = refl
-  bisect_agree (suc f) low high l = go (ltb low high) refl (bisect_agree f low ((low + high) / 2)) (bisect_agree f ((low + high) / 2 + 1) high l)
-    where
-      go : (b : Bool) → ltb low high ≡ b
-          → ((low + high) / 2 ≤ n → bisect part key o f low ((low + high) / 2) ≡ bisect part key q f low ((low + high) / 2))
-          → bisect part key o f ((low + high) / 2 + 1) high ≡ bisect part key q f ((low + high) / 2 + 1) high
-          → cond b (cond (above_at part key (get_or o ((low + high) / 2) 0)) (bisect part key o f low ((low + high) / 2)) (bisect part key o f ((low + high) / 2 + 1) high)) low
-          ≡ cond b (cond (above_at part key (get_or q ((low + high) / 2) 0)) (bisect part key q f low ((low + high) / 2)) (bisect part key q f ((low + high) / 2 + 1) high)) low
-      go true t down up =
-          let h : low < high = ltb-true low high t in
-          let m : (low + high) / 2 < n = omega arith in
-          rw (same ((low + high) / 2) m, down (omega arith), up)
-      go false t down up = refl
 
 -- a bisection ends between its ends
 pub bisect_between : (part key o : List ℕ) (fuel low high : ℕ) → low ≤ high → bisect part key o fuel low high ≤ high
@@ -81,81 +74,90 @@ bisect_between part key o (suc f) low high l = go (ltb low high) refl (bisect_be
         there false = up (omega (arith, h))
     go false t down up = l
 
--- the record before an index, from offsets that agree below it
-pub before_agree : (o q : List ℕ) (n i : ℕ) → ((k : ℕ) → k < n → get_or o k 0 ≡ get_or q k 0) → i ≤ n → before o i ≡ before q i
-before_agree o q n i same l = go (ltb 0 i) refl
-  where
-    go : (b : Bool) → ltb 0 i ≡ b → cond b (At (i - 1) (get_or o (i - 1) 0)) Nothing ≡ cond b (At (i - 1) (get_or q (i - 1) 0)) Nothing
-    go true t =
-        let h : 0 < i = ltb-true 0 i t in
-        rw (same (i - 1) (omega arith))
-    go false t = refl
+-- writing into the first n entries is writing into the whole
+over_front : (ws s : List ℕ) (n : ℕ) → length ws ≤ n → n ≤ length s → over ws (take n s) ++ drop n s ≡ over ws s
+over_front ws s n l m =
+    rw (append_assoc, ← drop-append-le (length ws) (take n s) (drop n s) (omega (arith, length-take-le n s m)), take-append-drop)
 
 module _ (part : List ℕ) (count : ℕ) (key scratch : List ℕ) where
-  pub floor_large : 65535 < length part → (Nothing ≡ floor_at part count key (length scratch)) × (scratch ≡ scratch_of part count scratch)
+  pub floor_large : 65535 < length part → (None ≡ floor_at part count key (length scratch)) × (scratch ≡ scratch_of part count scratch)
   unfolding floor_at scratch_of
   floor_large l = (rw (lt-ltb 65535 (length part) l), rw (lt-ltb 65535 (length part) l))
 
   module _ (small : length part ≤ 65535) where
-    pub floor_walk : length scratch < count → (walk_floor part key count 0 0 Nothing ≡ floor_at part count key (length scratch)) × (scratch ≡ scratch_of part count scratch)
+    pub floor_walk : length scratch < count → (walk_floor part key count 0 0 None ≡ floor_at part count key (length scratch)) × (scratch ≡ scratch_of part count scratch)
     unfolding floor_at scratch_of
     floor_walk l = (rw (le-ltb 65535 (length part) small, lt-ltb (length scratch) count l), rw (le-ltb 65535 (length part) small, lt-ltb (length scratch) count l))
 
-    module _ (room : count ≤ length scratch) where
-      pub scratch_filled : over (written part count 0) scratch ≡ scratch_of part count scratch
+    -- the scratch's first entries, one for each record, are what is written into
+    module _ (room : count ≤ length scratch) (o : List ℕ) (filled : o ≡ over (written part (length (take count scratch)) 0) (take count scratch)) where
+      fitted : length (take count scratch) ≡ count
+      fitted = length-take-le count scratch room
+
+      pub scratch_filled : o ++ drop count scratch ≡ scratch_of part count scratch
       unfolding scratch_of
-      scratch_filled = rw (le-ltb 65535 (length part) small, le-ltb (length scratch) count room)
+      scratch_filled =
+          rw (le-ltb 65535 (length part) small, le-ltb (length scratch) count room, filled, fitted) (over_front (written part count 0) scratch count (written_most part count 0) room)
 
-      pub floor_broken : unbroken part count 0 ≡ false → Nothing ≡ floor_at part count key (length scratch)
+      pub floor_broken : false ≡ unbroken part (length (take count scratch)) 0 → None ≡ floor_at part count key (length scratch)
       unfolding floor_at
-      floor_broken u = rw (le-ltb 65535 (length part) small, le-ltb (length scratch) count room, u)
+      floor_broken u =
+          let v : unbroken part count 0 ≡ false = sym (rw fitted at u) in
+          rw (le-ltb 65535 (length part) small, le-ltb (length scratch) count room, v)
 
-      module _ (u : unbroken part count 0 ≡ true) where
-        -- the entries below the count are the offsets that were written
-        pub filled_at : (k : ℕ) → k < count → get_or (over (written part count 0) scratch) k 0 ≡ get_or (written part count 0) k 0
-        filled_at k l = get_or-append (written part count 0) _ 0 k (omega (arith, written_length part count 0 u))
+      module _ (u : true ≡ unbroken part (length (take count scratch)) 0) where
+        all : unbroken part count 0 ≡ true
+        all = sym (rw fitted at u)
 
-        pub filled_whole : (k : ℕ) → k < count → is_record (split_record (drop (get_or (over (written part count 0) scratch) k 0) part)) ≡ true
-        filled_whole k l = rw (filled_at k l) (written_whole part count 0 k u l)
+        -- each entry is a record's offset
+        offsets : o ≡ written part count 0
+        offsets = rw (filled, fitted, drop_all (length (written part count 0)) (take count scratch) (omega (arith, written_length part count 0 all, fitted)), append-nil)
 
-        pub floor_bisect : before (over (written part count 0) scratch) (bisect part key (over (written part count 0) scratch) count 0 count) ≡ floor_at part count key (length scratch)
+        pub filled_whole : (k : ℕ) → k < length o → is_record (split_record (drop (get_or o k 0) part)) ≡ true
+        filled_whole k l = rw offsets (written_whole part count 0 k all (omega (arith, ap length offsets, written_length part count 0 all)))
+
+        pub floor_bisect : before o (bisect part key o (length o) 0 (length o)) ≡ floor_at part count key (length scratch)
         unfolding floor_at
         floor_bisect =
-            rw (le-ltb 65535 (length part) small, le-ltb (length scratch) count room, u, bisect_agree part key (over (written part count 0) scratch) (written part count 0) count filled_at count 0 count (omega arith))
-            (before_agree (over (written part count 0) scratch) (written part count 0) count (bisect part key (written part count 0) count 0 count) filled_at (bisect_between part key (written part count 0) count 0 count (omega arith)))
+            rw (le-ltb 65535 (length part) small, le-ltb (length scratch) count room, all, offsets, written_length part count 0 all)
 
 -- a record that a lookup finds is one of the part's
-pub walk_index : (part key : List ℕ) (m n p j : ℕ) (found : Floor) → ((i o : ℕ) → found ≡ At i o → i < m) → j + n ≤ m → (i o : ℕ) → walk_floor part key n p j found ≡ At i o → i < m
+pub walk_index : (part key : List ℕ) (m n p j : ℕ) (found : Option Floor) → ((f : Floor) → found ≡ Some f → f.index < m) → j + n ≤ m → (f : Floor) → walk_floor part key n p j found ≡ Some f → f.index < m
 unfolding walk_floor
-walk_index part key m zero p j found f l i o e = f i o e
-walk_index part key m (suc n) p j found f l i o e =
-    go (above_at part key p) (walk_index part key m n (next_offset part p) (j + 1) (At j p) here (omega arith) i o) e
+walk_index part key m zero p j found h l f e = h f e
+walk_index part key m (suc n) p j found h l f e =
+    go (above_at part key p) (walk_index part key m n (next_offset part p) (j + 1) (Some this) here (omega arith) f) e
   where
-    here : (i o : ℕ) → At j p ≡ At i o → i < m
-    here i o e = let g : j ≡ i = cc in omega arith
+    this : Floor
+    this = record { index = j; offset = p }
 
-    go : (b : Bool) → (walk_floor part key n (next_offset part p) (j + 1) (At j p) ≡ At i o → i < m) → cond b found (walk_floor part key n (next_offset part p) (j + 1) (At j p)) ≡ At i o → i < m
-    go true h e = f i o e
-    go false h e = h e
+    here : (f : Floor) → Some this ≡ Some f → f.index < m
+    here f e = rw (← same_Some this f e) (omega arith)
 
-pub floor_index : (part : List ℕ) (count : ℕ) (key : List ℕ) (entries i o : ℕ) → floor_at part count key entries ≡ At i o → i < count
+    go : (b : Bool) → (walk_floor part key n (next_offset part p) (j + 1) (Some this) ≡ Some f → f.index < m) → cond b found (walk_floor part key n (next_offset part p) (j + 1) (Some this)) ≡ Some f → f.index < m
+    go true more e = h f e
+    go false more e = more e
+
+pub floor_index : (part : List ℕ) (count : ℕ) (key : List ℕ) (entries : ℕ) (f : Floor) → floor_at part count key entries ≡ Some f → f.index < count
 unfolding floor_at
-floor_index part count key entries i o e = go (ltb 65535 (length part)) (ltb entries count) (unbroken part count 0) e
+floor_index part count key entries f e = go (ltb 65535 (length part)) (ltb entries count) (unbroken part count 0) e
   where
-    never : (i o m : ℕ) → Nothing ≡ At i o → i < m
-    never i o m e = let z : ◌≡◌ {A = ℕ} 0 1 = cc in omega arith
-
     b : ℕ
     b = bisect part key (written part count 0) count 0 count
 
-    there : (t : Bool) → ltb 0 b ≡ t → cond t (At (b - 1) (get_or (written part count 0) (b - 1) 0)) Nothing ≡ At i o → i < count
-    there true q e =
-        let g : b - 1 ≡ i = cc in
-        omega (arith, ltb-true 0 b q, bisect_between part key (written part count 0) count 0 count (omega arith))
-    there false q e = never i o count e
+    last : Floor
+    last = record { index = b - 1; offset = get_or (written part count 0) (b - 1) 0 }
 
-    go : (x y z : Bool) → cond x Nothing (cond y (walk_floor part key count 0 0 Nothing) (cond z (before (written part count 0) (bisect part key (written part count 0) count 0 count)) Nothing)) ≡ At i o → i < count
-    go true y z e = never i o count e
-    go false true z e = walk_index part key count count 0 0 Nothing (λ i o. never i o count) (omega arith) i o e
+    there : (t : Bool) → ltb 0 b ≡ t → cond t (Some last) None ≡ Some f → f.index < count
+    there true q e =
+        rw (← same_Some last f e) (omega (arith, ltb-true 0 b q, bisect_between part key (written part count 0) count 0 count (omega arith)))
+    there false q e = absurd cc
+
+    go : (x y z : Bool) → cond x None (cond y (walk_floor part key count 0 0 None) (cond z (before (written part count 0) (bisect part key (written part count 0) count 0 count)) None)) ≡ Some f → f.index < count
+    go true y z e = absurd cc
+    go false true z e = walk_index part key count count 0 0 None none (omega arith) f e
+      where
+        none : (f : Floor) → None ≡ Some f → f.index < count
+        none f e = absurd cc
     go false false true e = there (ltb 0 b) refl e
-    go false false false e = never i o count e
+    go false false false e = absurd cc

@@ -13,7 +13,7 @@ use Rattle.octets.specs.Order.{order, is_greater}
 use Rattle.lookup.specs.Floor.{next_offset, written, unbroken, above_at, bisect, before, walk_floor, floor_at}
 use Rattle.lookup.specs.Sorted.{offset_of, key_at, Sorted, key_above, IsFloor, FloorIsTheLast, WalkingIsHalving}
 use Rattle.lookup.specs.declared.Floor.{Floor}
-use Rattle.lookup.specs.declared.Floor.TheVariants.{At, Nothing}
+use Rattle.std.specs.Prelude.{Option, Some, None}
 use Rattle.octets.proofs.OrderLaws.{above_trans, greater_of}
 use Rattle.lookup.proofs.RecordLaws.{above_is}
 
@@ -80,7 +80,7 @@ module _ (part key : List ℕ) (count : ℕ) (sorted : Sorted part count) where
     answers : (b : ℕ) → Boundary up count b → IsFloor part count key (before offs b)
     answers b h = go (ltb 0 b) refl
       where
-        go : (t : Bool) → ltb 0 b ≡ t → IsFloor part count key (cond t (At (b - 1) (get_or offs (b - 1) 0)) Nothing)
+        go : (t : Bool) → ltb 0 b ≡ t → IsFloor part count key (cond t (Some (record { index = b - 1; offset = get_or offs (b - 1) 0 })) None)
         go true t =
             let p : 0 < b = ltb-true 0 b t in
             let w = h.within in
@@ -107,10 +107,10 @@ module _ (part key : List ℕ) (count : ℕ) (sorted : Sorted part count) where
 
   -- ---- the walk
   -- the record before index j
-  abbrev last : ℕ → Floor
-  last j = cond (ltb 0 j) (At (j - 1) (offset_of part (j - 1))) Nothing
+  abbrev last : ℕ → Option Floor
+  last j = cond (ltb 0 j) (Some (record { index = j - 1; offset = offset_of part (j - 1) })) None
 
-  last_next : (j : ℕ) → At j (offset_of part j) ≡ last (j + 1)
+  last_next : (j : ℕ) → Some (record { index = j; offset = offset_of part j }) ≡ last (j + 1)
   last_next j =
       let e : j + 1 - 1 ≡ j = omega arith in
       rw (lt-ltb 0 (j + 1) (omega arith), e)
@@ -122,7 +122,7 @@ module _ (part key : List ℕ) (count : ℕ) (sorted : Sorted part count) where
     where
       go : (b : Bool) → up j ≡ b
           → (((k : ℕ) → k < j + 1 → up k ≡ false) → (b : ℕ) × Boundary up count b × (walk_floor part key n (offset_of part (j + 1)) (j + 1) (last (j + 1)) ≡ last b))
-          → (c : ℕ) × Boundary up count c × (cond b (last j) (walk_floor part key n (next_offset part (offset_of part j)) (j + 1) (At j (offset_of part j))) ≡ last c)
+          → (c : ℕ) × Boundary up count c × (cond b (last j) (walk_floor part key n (next_offset part (offset_of part j)) (j + 1) (Some (record { index = j; offset = offset_of part j }))) ≡ last c)
       go true t more = (j, record { within = omega arith; below = lo; from = λ k p q. up_from j k p q t }, refl)
       go false t more =
           let r = more (λ k p. up_below k j (omega arith) (omega arith) t) in
@@ -132,14 +132,14 @@ module _ (part key : List ℕ) (count : ℕ) (sorted : Sorted part count) where
   answers_last : (b : ℕ) → Boundary up count b → IsFloor part count key (last b)
   answers_last b h = go (ltb 0 b) refl
     where
-      go : (t : Bool) → ltb 0 b ≡ t → IsFloor part count key (cond t (At (b - 1) (offset_of part (b - 1))) Nothing)
+      go : (t : Bool) → ltb 0 b ≡ t → IsFloor part count key (cond t (Some (record { index = b - 1; offset = offset_of part (b - 1) })) None)
       go true t =
           let p : 0 < b = ltb-true 0 b t in
           let w = h.within in
           (omega arith, refl, sym (up_is (b - 1) (omega arith)) ∙ h.below (b - 1) (omega arith), λ j l m. sym (up_is j m) ∙ h.from j (omega arith) m)
       go false t = λ j m. sym (up_is j m) ∙ h.from j (omega (arith, ltb-false 0 b t)) m
 
-  pub walk_answers : IsFloor part count key (walk_floor part key count 0 0 Nothing)
+  pub walk_answers : IsFloor part count key (walk_floor part key count 0 0 None)
   unfolding offset_of
   walk_answers =
       let r = walk_bound count 0 (omega arith) (λ k p. absurd (omega arith)) in
@@ -159,23 +159,23 @@ module _ (part key : List ℕ) (count : ℕ) (sorted : Sorted part count) where
   unfolding floor_at offset_of
   floor_answers entries small = rw (le-ltb 65535 (length part) small, unbroken_all count 0 (omega arith)) (go (ltb entries count))
     where
-      go : (t : Bool) → IsFloor part count key (cond t (walk_floor part key count 0 0 Nothing) (before (written part count 0) (bisect part key (written part count 0) count 0 count)))
+      go : (t : Bool) → IsFloor part count key (cond t (walk_floor part key count 0 0 None) (before (written part count 0) (bisect part key (written part count 0) count 0 count)))
       go true = walk_answers
       go false = bisect_answers
 
 -- ---- an answer that a lookup owes is the only one
-pub answers_same : (part : List ℕ) (count : ℕ) (key : List ℕ) (f g : Floor) → IsFloor part count key f → IsFloor part count key g → f ≡ g
-answers_same part count key (At i o) (At j p) a b = go (dec_lt i j) (dec_lt j i)
+pub answers_same : (part : List ℕ) (count : ℕ) (key : List ℕ) (f g : Option Floor) → IsFloor part count key f → IsFloor part count key g → f ≡ g
+answers_same part count key (Some f) (Some g) a b = go (dec_lt f.index g.index) (dec_lt g.index f.index)
   where
-    go : Dec (i < j) → Dec (j < i) → At i o ≡ At j p
-    go (yes l) m = absurd (true≢false (sym (a.3 j l b.0) ∙ b.2))
-    go (no l) (yes m) = absurd (true≢false (sym (b.3 i m a.0) ∙ a.2))
+    go : Dec (f.index < g.index) → Dec (g.index < f.index) → Some f ≡ Some g
+    go (yes l) m = absurd (true≢false (sym (a.3 g.index l b.0) ∙ b.2))
+    go (no l) (yes m) = absurd (true≢false (sym (b.3 f.index m a.0) ∙ a.2))
     go (no l) (no m) =
-        let e : i ≡ j = omega arith in
-        ap₂ At e (a.1 ∙ ap (offset_of part) e ∙ sym b.1)
-answers_same part count key (At i o) Nothing a b = absurd (true≢false (sym (b i a.0) ∙ a.2))
-answers_same part count key Nothing (At j p) a b = absurd (true≢false (sym (a j b.0) ∙ b.2))
-answers_same part count key Nothing Nothing a b = refl
+        let e : f.index ≡ g.index = omega arith in
+        ap₂ (λ i o. Some (record { index = i; offset = o })) e (a.1 ∙ ap (offset_of part) e ∙ sym b.1)
+answers_same part count key (Some f) None a b = absurd (true≢false (sym (b f.index a.0) ∙ a.2))
+answers_same part count key None (Some g) a b = absurd (true≢false (sym (a g.index b.0) ∙ b.2))
+answers_same part count key None None a b = refl
 
 pub floor_is_the_last : FloorIsTheLast
 floor_is_the_last part key count sorted entries small = floor_answers part key count sorted entries small
@@ -184,7 +184,7 @@ pub walking_is_halving : WalkingIsHalving
 unfolding floor_at
 walking_is_halving part key count sorted m n = go (dec_lt 65535 (length part))
   where
-    none : (e : ℕ) → 65535 < length part → floor_at part count key e ≡ Nothing
+    none : (e : ℕ) → 65535 < length part → floor_at part count key e ≡ None
     none e l = rw (lt-ltb 65535 (length part) l)
 
     go : Dec (65535 < length part) → floor_at part count key m ≡ floor_at part count key n

@@ -7,10 +7,11 @@ use native.Mathlib.Omega.{arith}
 use lib.Dec.{ltb}
 use lib.ListN.{length}
 use Rattle.lookup.specs.Record.{split_record}
-use Rattle.lookup.specs.Floor.{no_step, step_split, next_record}
-use Rattle.lookup.specs.declared.Split.{Split}
-use Rattle.lookup.specs.declared.Split.TheVariants.{Record, Broken}
+use Rattle.lookup.specs.Floor.{step_split, next_record}
+use Rattle.lookup.specs.declared.Lengths.{Lengths}
 use Rattle.lookup.specs.declared.Step.{Step}
+use Rattle.std.specs.Prelude.{Option, Some, None}
+use Rattle.std.proofs.lemmas.Option.{same_Some}
 use Rattle.lookup.proofs.RecordLaws.{split_fits}
 
 pub record Ordered (part : List ℕ) (s : Step) : Type 0 where
@@ -18,12 +19,11 @@ pub record Ordered (part : List ℕ) (s : Step) : Type 0 where
   pub value : s.key_end ≤ s.value_end
   pub end : s.value_end ≤ length part
 
-pub step_ordered : (part : List ℕ) (n : ℕ) → Ordered part (next_record part n)
+pub step_ordered : (part : List ℕ) (n : ℕ) (s : Step) → next_record part n ≡ Some s → Ordered part s
 unfolding next_record
-step_ordered part n = go (ltb 0 n) (split_record part) refl
+step_ordered part n s = go (ltb 0 n) (split_record part) refl
   where
-    go : (b : Bool) (r : Split) → split_record part ≡ r → Ordered part (cond b (step_split n r) (no_step n))
-    go true (Record k v) e = record { key = omega arith; value = omega arith; end = split_fits part k v e }
-    go true Broken e = record { key = omega arith; value = omega arith; end = omega arith }
-    go false (Record k v) e = record { key = omega arith; value = omega arith; end = omega arith }
-    go false Broken e = record { key = omega arith; value = omega arith; end = omega arith }
+    go : (b : Bool) (r : Option Lengths) → split_record part ≡ r → cond b (step_split n r) None ≡ Some s → Ordered part s
+    go true (Some l) e f = rw (← same_Some _ s f) (record { key = omega arith; value = omega arith; end = split_fits part l e })
+    go true None e f = absurd cc
+    go false r e f = absurd cc

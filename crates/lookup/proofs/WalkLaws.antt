@@ -6,19 +6,18 @@ use lib.ListN.{drop}
 use Rattle.lookup.specs.Record.{look_at}
 use Rattle.lookup.specs.Floor.{walk_floor}
 use Rattle.lookup.specs.declared.Floor.{Floor}
-use Rattle.lookup.specs.declared.Floor.TheVariants.{At}
-use Rattle.lookup.specs.declared.Look.TheVariants.{Above, Size}
+use Rattle.std.specs.Prelude.{Option, Some, None}
 use Rattle.lookup.proofs.RecordLaws.{look_is}
 
-module _ (part key : List ℕ) (m n p i : ℕ) (found : Floor) (left : m ≡ suc n) where
-  pub walk_step : (z : ℕ) → look_at (drop p part) key ≡ Size z → walk_floor part key n (p + z) (i + 1) (At i p) ≡ walk_floor part key m p i found
+module _ (part key : List ℕ) (m n p i : ℕ) (found : Option Floor) (left : m ≡ suc n) where
+  pub walk_step : (z : ℕ) → look_at (drop p part) key ≡ Some z → walk_floor part key n (p + z) (i + 1) (Some (record { index = i; offset = p })) ≡ walk_floor part key m p i found
   unfolding walk_floor
   walk_step z e = rw (left, walk_floor, e, (look_is (drop p part) key z e).0)
 
-  pub walk_stop : look_at (drop p part) key ≡ Above → found ≡ walk_floor part key m p i found
+  pub walk_stop : look_at (drop p part) key ≡ None → found ≡ walk_floor part key m p i found
   unfolding walk_floor
   walk_stop e = rw (left, walk_floor, e)
 
-pub walk_end : (part key : List ℕ) (m p i : ℕ) (found : Floor) → m ≡ 0 → found ≡ walk_floor part key m p i found
+pub walk_end : (part key : List ℕ) (m p i : ℕ) (found : Option Floor) → m ≡ 0 → found ≡ walk_floor part key m p i found
 unfolding walk_floor
 walk_end part key m p i found none = rw (none, walk_floor)

@@ -1,12 +1,10 @@
 -- The floor lookup (01, section 7): the last record whose key is not above the sought one, in a part with so many records.
-use Rattle.std.specs.Prelude.{ℕ, zero, suc, ◌+◌, ◌-◌, ◌/◌, List, [], ◌∷◌, ◌++◌, Bool, true, false, ◌&&◌, cond, ltb, length, get_or, drop}
+use Rattle.std.specs.Prelude.{ℕ, zero, suc, ◌+◌, ◌-◌, ◌/◌, List, [], ◌∷◌, ◌++◌, Bool, true, ◌&&◌, cond, ltb, length, get_or, drop, Option, Some, None}
 use Rattle.lookup.specs.Record.{split_record, is_record, size_of, look_at, is_above}
 use Rattle.lookup.specs.declared.Answer.{Answer}
-use Rattle.lookup.specs.declared.Split.{Split}
-use Rattle.lookup.specs.declared.Split.TheVariants.{Record, Broken}
-use Rattle.lookup.specs.declared.Step.{Step}
 use Rattle.lookup.specs.declared.Floor.{Floor}
-use Rattle.lookup.specs.declared.Floor.TheVariants.{At, Nothing}
+use Rattle.lookup.specs.declared.Lengths.{Lengths}
+use Rattle.lookup.specs.declared.Step.{Step}
 
 -- the offset of the record after the one at p
 abbrev pub next_offset : List ℕ → ℕ → ℕ
@@ -39,43 +37,39 @@ bisect part key offs (suc steps) low high =
     low
 
 -- the record before an index, none before the first
-abbrev pub before : List ℕ → ℕ → Floor
-before offs i = cond (ltb 0 i) (At (i - 1) (get_or offs (i - 1) 0)) Nothing
+abbrev pub before : List ℕ → ℕ → Option Floor
+before offs i = cond (ltb 0 i) (Some (record { index = i - 1; offset = get_or offs (i - 1) 0 })) None
 
 -- the walk from the front: n records are left, the next is record i at p, and `found` is the answer so far. A broken record stops it as one above the sought key does
-unfoldable pub walk_floor : List ℕ → List ℕ → ℕ → ℕ → ℕ → Floor → Floor
+unfoldable pub walk_floor : List ℕ → List ℕ → ℕ → ℕ → ℕ → Option Floor → Option Floor
 walk_floor part key zero p i found = found
-walk_floor part key (suc n) p i found = cond (above_at part key p) found (walk_floor part key n (next_offset part p) (i + 1) (At i p))
+walk_floor part key (suc n) p i found = cond (above_at part key p) found (walk_floor part key n (next_offset part p) (i + 1) (Some (record { index = i; offset = p })))
 
 -- the answer, lent a scratch of so many entries. A part above 65,535 bytes gives none; a scratch shorter than the count, the walk; records that break in the filling, none
-unfoldable pub floor_at : List ℕ → ℕ → List ℕ → ℕ → Floor
+unfoldable pub floor_at : List ℕ → ℕ → List ℕ → ℕ → Option Floor
 floor_at part count key entries =
-    cond (ltb 65535 (length part)) Nothing
-    (cond (ltb entries count) (walk_floor part key count 0 0 Nothing)
-    (cond (unbroken part count 0) (before (written part count 0) (bisect part key (written part count 0) count 0 count)) Nothing))
+    cond (ltb 65535 (length part)) None
+    (cond (ltb entries count) (walk_floor part key count 0 0 None)
+    (cond (unbroken part count 0) (before (written part count 0) (bisect part key (written part count 0) count 0 count)) None))
 
 -- the scratch at the end: untouched in the first two cases, otherwise its first count entries become the records' offsets
 unfoldable pub scratch_of : List ℕ → ℕ → List ℕ → List ℕ
 scratch_of part count scratch = cond (ltb 65535 (length part)) scratch (cond (ltb (length scratch) count) scratch (over (written part count 0) scratch))
 
--- the answer in numbers: whether there is a record, its index, how many records there are from it on, and where these start and end in the part. Where there is none each is 0
-abbrev pub answer_of : ℕ → ℕ → Floor → Answer
-answer_of len count (At i o) = record { found = true; index = i; remaining = count - i; from = o; end = len }
-answer_of len count Nothing = record { found = false; index = 0; remaining = 0; from = 0; end = 0 }
+-- the answer: the record's index, how many records there are from it on, and where these start and end in the part; none where no record is found
+abbrev pub answer_of : ℕ → ℕ → Option Floor → Option Answer
+answer_of len count (Some f) = Some (record { index = f.index; remaining = count - f.index; from = f.offset; end = len })
+answer_of len count None = None
 
 -- the lookup's answer on a part with so many records, lent a scratch of so many entries
-abbrev pub floor_answer : List ℕ → ℕ → List ℕ → ℕ → Answer
+abbrev pub floor_answer : List ℕ → ℕ → List ℕ → ℕ → Option Answer
 floor_answer part count key entries = answer_of (length part) count (floor_at part count key entries)
 
--- where there is no record nothing is passed, and as many are left
-abbrev pub no_step : ℕ → Step
-no_step n = record { found = false; key_start = 0; key_end = 0; value_end = 0; remaining = n }
-
 -- the step over a record; there is none over a broken one
-abbrev pub step_split : ℕ → Split → Step
-step_split n (Record k v) = record { found = true; key_start = 4; key_end = 4 + k; value_end = 4 + k + v; remaining = n - 1 }
-step_split n Broken = no_step n
+abbrev pub step_split : ℕ → Option Lengths → Option Step
+step_split n (Some l) = Some (record { key_start = 4; key_end = 4 + l.key_len; value_end = 4 + l.key_len + l.value_len; remaining = n - 1 })
+step_split n None = None
 
--- `next` of `Records`: the first of n records that are left: where its key starts and ends, where its value ends, and how many are left after it; there is none where n is 0 or it is broken
-unfoldable pub next_record : List ℕ → ℕ → Step
-next_record part n = cond (ltb 0 n) (step_split n (split_record part)) (no_step n)
+-- `next` of `Records`: the first of n records that are left: where its key starts and ends, where its value ends, and how many are left after it; there is none where n is 0 or it is broken, and then nothing is passed
+unfoldable pub next_record : List ℕ → ℕ → Option Step
+next_record part n = cond (ltb 0 n) (step_split n (split_record part)) None

@@ -1,11 +1,10 @@
 -- A part whose records are whole and whose keys strictly increase (01, section 5), and the answer that a floor lookup then owes.
-use Rattle.std.specs.Prelude.{◌≡◌, Bool, true, false, List, ℕ, zero, suc, ◌<◌, ◌≤◌, length, drop}
+use Rattle.std.specs.Prelude.{◌≡◌, Bool, true, false, List, ℕ, zero, suc, ◌<◌, ◌≤◌, length, drop, Option, Some, None}
 use Rattle.octets.specs.Order.{order, is_greater}
-use Rattle.octets.specs.declared.Order.TheVariants.{Less}
+use Rattle.std.specs.declared.cmp.Ordering.TheVariants.{Less}
 use Rattle.lookup.specs.Record.{split_record, is_record, key_of}
 use Rattle.lookup.specs.Floor.{next_offset, floor_at}
 use Rattle.lookup.specs.declared.Floor.{Floor}
-use Rattle.lookup.specs.declared.Floor.TheVariants.{At, Nothing}
 
 -- where record k starts
 unfoldable pub offset_of : List ℕ → ℕ → ℕ
@@ -26,9 +25,9 @@ abbrev pub key_above : List ℕ → List ℕ → ℕ → Bool
 key_above part key k = is_greater (order (key_at part k) key)
 
 -- the record found is the last whose key is not above the sought one; or there is none, and every key is above it
-abbrev pub IsFloor : List ℕ → ℕ → List ℕ → Floor → Type 0
-IsFloor part count key (At i o) = (i < count) × (o ≡ offset_of part i) × (key_above part key i ≡ false) × ((j : ℕ) → i < j → j < count → key_above part key j ≡ true)
-IsFloor part count key Nothing = (j : ℕ) → j < count → key_above part key j ≡ true
+abbrev pub IsFloor : List ℕ → ℕ → List ℕ → Option Floor → Type 0
+IsFloor part count key (Some f) = (f.index < count) × (f.offset ≡ offset_of part f.index) × (key_above part key f.index ≡ false) × ((j : ℕ) → f.index < j → j < count → key_above part key j ≡ true)
+IsFloor part count key None = (j : ℕ) → j < count → key_above part key j ≡ true
 
 -- on such a part, of at most 65,535 bytes, every lookup answers so
 abbrev pub FloorIsTheLast : Type 0

@@ -1,135 +1,107 @@
 // Records in a part: the record at its start, and the floor lookup, the last record whose key is not above a sought one. Document 01, section 7.
 #![tactic(auto)]
 
-ghost use Rattle.std.specs.Prelude.{◌≡◌, true, ℕ, ◌+◌, ◌-◌, ◌<◌, ◌≤◌, length, get_or, drop};
+ghost use Rattle.std.specs.Prelude.{◌≡◌, true, ℕ, ◌+◌, ◌-◌, ◌<◌, ◌≤◌, length, get_or, drop, None, is_some};
 ghost use Rattle.octets.specs.Number.{u16_at};
 ghost use Rattle.lookup.specs.Record.{split_record, is_record, look_at};
 ghost use Rattle.lookup.specs.Inside.{record_end};
-ghost use Rattle.lookup.specs.Floor.{written, unbroken, over, above_at, bisect, before, walk_floor, floor_at, scratch_of, floor_answer, no_step, next_record};
+ghost use Rattle.lookup.specs.Floor.{written, unbroken, over, above_at, bisect, before, walk_floor, floor_at, scratch_of, floor_answer, next_record};
 
-// What stands at the start of a part: a record, or too few bytes for one.
+// The lengths of a record's key and value.
 #[derive(Clone, Copy)]
-pub enum Split {
-    Record { key_len: usize, value_len: usize },
-    Broken,
+pub struct Lengths {
+    pub key_len: usize,
+    pub value_len: usize,
 }
 
-// A record beside a sought key: above it, or not and of so many bytes.
+// The record that a lookup finds: the how manieth it is, and where it starts.
 #[derive(Clone, Copy)]
-pub enum Look {
-    Above,
-    Size(usize),
+pub struct Floor {
+    pub index: usize,
+    pub offset: usize,
 }
 
-// Where a record at a place ends, or that it is broken.
-#[derive(Clone, Copy)]
-enum End {
-    At(usize),
-    Broken,
-}
-
-#[derive(Clone, Copy)]
-pub enum Floor {
-    At { index: usize, offset: usize },
-    Nothing,
-}
-
-// The record at the start of a part.
-pub fn split_record(part: &[u8]) -> Split
+// The record at the start of a part; none where it is broken.
+#[tactic(auto, unfolding(crate::specs::Record::split_record))]
+pub fn split_record(part: &[u8]) -> Option<Lengths>
     ensures { result ≡ split_record part.now }
 {
     if part.len() < 4 {
-        return Split::Broken;
+        return None;
     }
     let key_len = octets::u16_at(part, 0) as usize;
     let value_len = octets::u16_at(part, 2) as usize;
     if part.len() < 4 + key_len + value_len {
-        return Split::Broken;
+        return None;
     }
-    Split::Record { key_len, value_len }
+    Some(Lengths { key_len, value_len })
 }
 
-// The record at the start of a part, beside a sought key; a broken one counts as above it.
-pub fn look_at(part: &[u8], key: &[u8]) -> Look
+// How many bytes the record at the start of a part takes, where its key is not above a sought one; a broken one counts as above it.
+#[tactic(auto, using(crate::proofs::RecordLaws::split_fits), unfolding(crate::specs::Record::look_at))]
+pub fn look_at(part: &[u8], key: &[u8]) -> Option<usize>
     ensures { result ≡ look_at part.now key.now }
 {
-    match split_record(part) {
-        Split::Record { key_len, value_len } => {
-            let end = 4 + key_len;
-            if octets::is_above(&part[4..end], key) {
-                Look::Above
-            } else {
-                Look::Size(end + value_len)
-            }
-        }
-        Split::Broken => Look::Above,
+    let Lengths { key_len, value_len } = split_record(part)?;
+    let end = 4 + key_len;
+    if octets::is_above(&part[4..end], key) {
+        return None;
     }
+    Some(end + value_len)
 }
 
-// Where the record at a place ends, or that it is broken.
-fn record_end(part: &[u8], at: usize) -> End
+// Where the record at a place ends; none where it is broken.
+// Kept: with split_record of the rest in its place a lookup takes 1.19 of the time.
+#[tactic(auto, using(crate::proofs::RecordLaws::end_short, crate::proofs::RecordLaws::end_broken, crate::proofs::RecordLaws::end_at))]
+fn record_end(part: &[u8], at: usize) -> Option<usize>
     requires { (at ≤ length part.now) × (length part.now ≤ 65535) }
     ensures { result ≡ record_end part.now at }
 {
     let start = at + 4;
     if part.len() < start {
-        return End::Broken;
+        return None;
     }
     let end = start + octets::u16_at(part, at) as usize + octets::u16_at(part, at + 2) as usize;
     if part.len() < end {
-        return End::Broken;
+        return None;
     }
-    End::At(end)
+    Some(end)
 }
 
-// Writes each record's offset into the scratch, a record's before it is split, and says whether none is broken.
-fn fill_offsets(part: &[u8], count: usize, scratch: &mut [u16]) -> bool
-    requires { (length part.now ≤ 65535) × (count ≤ length scratch.old) }
-    ensures { (result ≡ unbroken part.now count 0) × (scratch.new ≡ over (written part.now count 0) scratch.old) }
+// Writes the records' offsets into their entries, a record's before it is split; none where one is broken.
+fn fill_offsets(part: &[u8], offsets: &mut [u16]) -> Option<()>
+    requires { length part.now ≤ 65535 }
+    ensures { (is_some result ≡ unbroken part.now (length offsets.old) 0) × (offsets.new ≡ over (written part.now (length offsets.old) 0) offsets.old) }
 {
-    let mut i = 0;
     let mut position = 0;
-    while i < count {
-        scratch[i] = position as u16;
-        match record_end(part, position) {
-            End::At(end) => {
-                position = end;
-                i += 1;
-            }
-            End::Broken => {
-                return false;
-            }
-        }
+    for slot in offsets.iter_mut() {
+        *slot = position as u16;
+        position = record_end(part, position)?;
     }
-    true
+    Some(())
 }
 
 // The walk from the front, which stops at a record above the key and at a broken one.
-fn walk_floor(part: &[u8], count: usize, key: &[u8]) -> Floor
-    ensures { result ≡ walk_floor part.now key.now count 0 0 Floor.Nothing }
+fn walk_floor(part: &[u8], count: usize, key: &[u8]) -> Option<Floor>
+    ensures { result ≡ walk_floor part.now key.now count 0 0 None }
 {
-    let mut index = 0;
     let mut position = 0;
-    let mut found = Floor::Nothing;
-    while index < count {
-        match look_at(&part[position..], key) {
-            Look::Size(size) => {
-                found = Floor::At {
-                    index,
-                    offset: position,
-                };
-                position += size;
-                index += 1;
-            }
-            Look::Above => {
-                return found;
-            }
-        }
+    let mut found = None;
+    for index in 0..count {
+        let Some(size) = look_at(&part[position..], key) else {
+            return found;
+        };
+        found = Some(Floor {
+            index,
+            offset: position,
+        });
+        position += size;
     }
     found
 }
 
 // Whether the key of the whole record at a place is above a sought one.
+#[tactic(auto, using(crate::proofs::RecordLaws::above_at_is))]
 fn above_at(part: &[u8], at: usize, key: &[u8]) -> bool
     requires { (is_record (split_record (drop at part.now)) ≡ true) × (at + 4 + u16_at part.now at ≤ length part.now) }
     ensures { result ≡ above_at part.now key.now at }
@@ -140,12 +112,13 @@ fn above_at(part: &[u8], at: usize, key: &[u8]) -> bool
 }
 
 // The record before the first one above the key, by bisection over the offsets of whole records.
-fn bisect_records(part: &[u8], count: usize, key: &[u8], offsets: &[u16]) -> Floor
-    requires { (count ≤ length offsets.now) × ((k : ℕ) → k < count → is_record (split_record (drop (get_or offsets.now k 0) part.now)) ≡ true) }
-    ensures { result ≡ before offsets.now (bisect part.now key.now offsets.now count 0 count) }
+// Kept: halving by hand: document 01 fixes its steps, which decide where keys are in no order; the library's promises nothing there.
+fn bisect_records(part: &[u8], key: &[u8], offsets: &[u16]) -> Option<Floor>
+    requires { (k : ℕ) → k < length offsets.now → is_record (split_record (drop (get_or offsets.now k 0) part.now)) ≡ true }
+    ensures { result ≡ before offsets.now (bisect part.now key.now offsets.now (length offsets.now) 0 (length offsets.now)) }
 {
     let mut low = 0;
-    let mut high = count;
+    let mut high = offsets.len();
     while low < high {
         let middle = (low + high) / 2;
         let at = offsets[middle] as usize;
@@ -155,107 +128,72 @@ fn bisect_records(part: &[u8], count: usize, key: &[u8], offsets: &[u16]) -> Flo
             low = middle + 1;
         }
     }
-    if 0 < low {
-        let index = low - 1;
-        let offset = offsets[index] as usize;
-        Floor::At { index, offset }
-    } else {
-        Floor::Nothing
-    }
+    let index = low.checked_sub(1)?;
+    let offset = offsets[index] as usize;
+    Some(Floor { index, offset })
 }
 
 // The floor lookup. The scratch is written where it has an entry for each record and the part has at most 65,535 bytes.
-pub fn floor_at(part: &[u8], count: usize, key: &[u8], scratch: &mut [u16]) -> Floor
+pub fn floor_at(part: &[u8], count: usize, key: &[u8], scratch: &mut [u16]) -> Option<Floor>
     ensures { (result ≡ floor_at part.now count key.now (length scratch.old)) × (scratch.new ≡ scratch_of part.now count scratch.old) }
 {
     if 65535 < part.len() {
-        return Floor::Nothing;
+        return None;
     }
     if scratch.len() < count {
         return walk_floor(part, count, key);
     }
-    if fill_offsets(part, count, scratch) {
-        bisect_records(part, count, key, scratch)
-    } else {
-        Floor::Nothing
-    }
+    let offsets = &mut scratch[..count];
+    fill_offsets(part, offsets)?;
+    bisect_records(part, key, offsets)
 }
 
-// The answer of a floor lookup in numbers; where there is no record each is 0.
+// The record that a lookup finds: its index, how many records there are from it on, and where these start and end in the part.
+// Kept: places, here and in `Step`, not parts: the C interface hands them on.
 #[derive(Clone, Copy)]
 pub struct Answer {
-    pub found: bool,
     pub index: usize,
     pub remaining: usize,
     pub from: usize,
     pub end: usize,
 }
 
-pub fn floor_answer(part: &[u8], count: usize, key: &[u8], scratch: &mut [u16]) -> Answer
+#[tactic(auto, using(crate::proofs::FloorLaws::floor_index))]
+pub fn floor_answer(part: &[u8], count: usize, key: &[u8], scratch: &mut [u16]) -> Option<Answer>
     ensures { (result ≡ floor_answer part.now count key.now (length scratch.old)) × (scratch.new ≡ scratch_of part.now count scratch.old) }
 {
-    match floor_at(part, count, key, scratch) {
-        Floor::At {
-            index,
-            offset: from,
-        } => Answer {
-            found: true,
-            index,
-            remaining: count - index,
-            from,
-            end: part.len(),
-        },
-        Floor::Nothing => Answer {
-            found: false,
-            index: 0,
-            remaining: 0,
-            from: 0,
-            end: 0,
-        },
-    }
+    let Floor { index, offset } = floor_at(part, count, key, scratch)?;
+    Some(Answer {
+        index,
+        remaining: count - index,
+        from: offset,
+        end: part.len(),
+    })
 }
 
-// What stands at the front of a part with so many records left: where the record's key starts and ends, where its value ends, and how
-// many records are left after it.
+// The record at the front of a part: where its key starts and ends, where its value ends, and how many records are left after it.
 #[derive(Clone, Copy)]
 pub struct Step {
-    pub found: bool,
     pub key_start: usize,
     pub key_end: usize,
     pub value_end: usize,
     pub remaining: usize,
 }
 
-// Where there is no record, nothing is passed.
-fn no_step(remaining: usize) -> Step
-    ensures { result ≡ no_step remaining }
-{
-    Step {
-        found: false,
-        key_start: 0,
-        key_end: 0,
-        value_end: 0,
-        remaining,
-    }
-}
-
-pub fn next_record(part: &[u8], remaining: usize) -> Step
+// The first of so many records that are left.
+#[tactic(auto, using(crate::proofs::RecordLaws::split_fits), unfolding(crate::specs::Floor::next_record))]
+pub fn next_record(part: &[u8], remaining: usize) -> Option<Step>
     ensures { result ≡ next_record part.now remaining }
 {
     if remaining == 0 {
-        return no_step(remaining);
+        return None;
     }
-    match split_record(part) {
-        Split::Record { key_len, value_len } => {
-            let key_end = 4 + key_len;
-            Step {
-                found: true,
-                key_start: 4,
-                key_end,
-                value_end: key_end + value_len,
-                remaining: remaining - 1,
-            }
-        }
-        Split::Broken => no_step(remaining),
-    }
+    let Lengths { key_len, value_len } = split_record(part)?;
+    let key_end = 4 + key_len;
+    Some(Step {
+        key_start: 4,
+        key_end,
+        value_end: key_end + value_len,
+        remaining: remaining - 1,
+    })
 }

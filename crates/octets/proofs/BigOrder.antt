@@ -11,11 +11,14 @@ use borrow.Author.Tests.{lt-ltb, le-ltb}
 use lib.ListN.{length, take, drop, take-append-drop}
 use lib.Seq.{drop-drop, take-take}
 use Rattle.octets.specs.Bytes.{Bytes, byte_at, part}
-use Rattle.octets.specs.Number.{little, big, field, u64_at}
+use Rattle.octets.specs.Number.{big}
 use Rattle.octets.specs.Order.{order, is_greater}
 use Rattle.octets.specs.Inside.{Decides}
-use Rattle.octets.specs.declared.Order.TheVariants.{Less, Greater}
-use Rattle.octets.proofs.Digits.{bytes_part, field_same}
+use Rattle.std.specs.declared.cmp.Ordering.TheVariants.{Less, Greater}
+use mir.Syntax.{w64}
+use Rattle.std.specs.Int.{from_be_bytes}
+use Rattle.octets.proofs.Arrays.{be_number}
+use Rattle.octets.proofs.Digits.{bytes_part}
 use Rattle.octets.proofs.Join.{part_length}
 use Rattle.octets.proofs.Parts.{grow}
 use Rattle.octets.proofs.OrderLaws.{less_end, equal_end, greater_end, less_by, less_on, order_flip, order_behind}
@@ -98,16 +101,6 @@ not_above_end a b i p = go (dec_lt i (length b))
 
 -- ---- where eight bytes decide the order
 
--- eight bytes that are the same have one stored number
-same_number : {x y : ℕ} (a b : List ℕ) (i : ℕ) → x ≡ u64_at a i → y ≡ u64_at b i → part a i 8 ≡ part b i 8 → x ≡ y
-unfolding field
-same_number a b i ex ey e = ex ∙ ap (λ (l : List ℕ). little l) e ∙ sym ey
-
--- eight bytes that differ, behind others that don't, decide the order
-pub differ_here : {x y : ℕ} (a b : List ℕ) (i : ℕ) → i + 8 ≤ length a → i + 8 ≤ length b → take i a ≡ take i b
-    → x ≡ u64_at a i → y ≡ u64_at b i → (x ≡ y → ⊥) → Decides a b i
-differ_here a b i p q e ex ey n = record { in_a = p; in_b = q; before = e; end = λ s. absurd (n (same_number a b i ex ey s)) }
-
 -- where those before the shorter string's last eight are the same, the last eight decide it
 pub last_eight : (a b : List ℕ) (i last : ℕ) → take i a ≡ take i b → last ≤ i → last + 8 ≡ min (length a) (length b) → Decides a b last
 last_eight a b i last e l m =
@@ -150,26 +143,19 @@ module _ (a b : List ℕ) (i : ℕ) (known : (k : ℕ) → byte_at a k < 256) (k
       go x y p q (no h) (yes l) = rw (le-ltb y x (omega arith), less (omega arith))
       go x y p q (no h) (no l) = absurd (n (big_same (part a i 8) (part b i 8) as_many bytes_a bytes_b (omega arith)))
 
-  -- groups whose stored numbers are the same are the same
-  pub group_same : u64_at a i ≡ u64_at b i → part a i 8 ≡ part b i 8
-  group_same e = field_same a b i 8 (record { below = known }) (record { below = known' }) fits fits' e
-
   module _ (d : Decides a b i) where
     -- where they differ, their order is that of the strings
-    pub decided : {x y p q : ℕ} → x ≡ u64_at a i → y ≡ u64_at b i → (x ≡ y → ⊥) → p ≡ big (part b i 8) → q ≡ big (part a i 8) → ltb p q ≡ is_greater (order a b)
+    pub decided : {x y : List ℕ} {p q : ℕ} → x ≡ part a i 8 → y ≡ part b i 8 → (x ≡ y → ⊥) → p ≡ from_be_bytes w64 y → q ≡ from_be_bytes w64 x → ltb p q ≡ is_greater (order a b)
     decided ex ey n ep eq =
-        ap₂ ltb ep eq
-        ∙ group_differs (λ e. n (same_number a b i ex ey e))
+        ap₂ ltb (ep ∙ ap (from_be_bytes w64) ey ∙ be_number w64 (part b i 8) (part_length b i 8 fits')) (eq ∙ ap (from_be_bytes w64) ex ∙ be_number w64 (part a i 8) (part_length a i 8 fits))
+        ∙ group_differs (λ e. n (ex ∙ e ∙ sym ey))
         ∙ ap is_greater (order_behind a b i d.before)
 
     -- where they are the same, the longer string is above
-    pub ended : u64_at a i ≡ u64_at b i → ltb (length b) (length a) ≡ is_greater (order a b)
-    ended e =
+    pub ended : part a i 8 ≡ part b i 8 → ltb (length b) (length a) ≡ is_greater (order a b)
+    ended same =
         go (dec_lt (length b) (length a)) (d.end same) ∙ ap is_greater (order_behind a b (i + 8) (grow a b i 8 d.before same))
       where
-        same : part a i 8 ≡ part b i 8
-        same = group_same e
-
         go : Dec (length b < length a) → i + 8 ≡ min (length a) (length b)
             → ltb (length b) (length a) ≡ is_greater (order (drop (i + 8) a) (drop (i + 8) b))
         go (yes h) m = rw (lt-ltb _ _ h, greater_end a b (i + 8) (omega arith) (omega arith))

@@ -1,14 +1,14 @@
 -- Bytes laid into a buffer, one text behind another.
-use Prim.Native.Nat.{ℕ, suc, ◌+◌, ◌-◌, ◌≤◌, ◌<◌, min}
+use Prim.Native.Nat.{ℕ, suc, ◌+◌, ◌-◌, ◌≤◌, min}
 use mathlib.Core.Path.{◌≡◌, refl, sym, ap, ◌∙◌}
 use mathlib.Core.Bool.{Bool, true, false}
-use mathlib.Core.List.{List, [], ◌∷◌, ◌++◌}
+use mathlib.Core.List.{List, [], ◌∷◌, ◌++◌, append_assoc}
+use native.Mathlib.Decide.{dec_le}
 use native.Mathlib.Omega.{arith}
 use borrow.Author.Tests.{ltb-true, ltb-false}
 use lib.Dec.{ltb}
-use native.Mathlib.Numerals.{add-one}
-use lib.ListN.{length, get_or, set, take, drop, length-set, length-append, take-append-drop}
-use lib.Seq.{sets, set_out, length-sets, sets-eq, take-suc, take_all}
+use lib.ListN.{length, set, take, drop, length-set, length-append, take-append-drop, drop_of_length-le}
+use lib.Seq.{sets, set_out, length-sets, sets-eq, drop-drop, length-take-le}
 use Rattle.octets.specs.Bytes.{Laid}
 
 -- behind the buffer's end nothing is laid
@@ -18,9 +18,6 @@ sets_out l at (b ∷ text) h = rw (set_out l at b h) (sets_out l (suc at) text (
 
 pub laid_out : (out : List ℕ) (at : ℕ) (text : List ℕ) → length out ≤ at → Laid out at text out at
 laid_out out at text h = record { stands = sym (sets_out out at text h); ends = omega arith }
-
-pub laid_one : (out : List ℕ) (at b : ℕ) → at < length out → Laid out at (b ∷ []) (set out at b) (at + 1)
-laid_one out at b h = record { stands = refl; ends = omega arith }
 
 -- where a text ends
 abbrev pub reach : List ℕ → ℕ → List ℕ → ℕ
@@ -52,24 +49,27 @@ laid_three f g h e = rw e (laid_then (laid_then f g) h)
 pub laid_whole : {before text after : List ℕ} {at r : ℕ} → Laid before at text after r → at + length text ≤ length before → (after ≡ take at before ++ text ++ drop (at + length text) before) × (r ≡ at + length text)
 laid_whole {before} {text} {after} {at} {r} l h = (l.stands ∙ sets-eq text before at h, omega (arith, l.ends))
 
--- ---- a text laid byte by byte: its first i bytes stand, and the next goes to `place`
+-- ---- as much of a text as there is room for, copied as a whole
+pub laid_front : (before text : List ℕ) (at n : ℕ) → at ≤ length before → n ≡ min (length text) (length before - at)
+    → Laid before at text (take at before ++ (take n text ++ drop n (drop at before))) (at + n)
+laid_front before text at n h e = rw take-append-drop at (laid_then first (rest (dec_le (length text) n)))
+  where
+    m : length (take n text) ≡ n
+    m = length-take-le n text (omega arith)
 
-pub record Begun (before : List ℕ) (at : ℕ) (text out : List ℕ) (i place : ℕ) : Type 0 where
-  pub so_far : Laid before at (take i text) out place
+    after : List ℕ
+    after = take at before ++ (take n text ++ drop n (drop at before))
 
-pub lay_none : {out text : List ℕ} {at : ℕ} → Begun out at text out 0 at
-lay_none = record { so_far = record { stands = refl; ends = omega arith } }
+    first : Laid before at (take n text) after (at + n)
+    first =
+        record {
+          stands = sym (sets-eq (take n text) before at (omega (arith, m)) ∙ rw (m, drop-drop n at before) (append_assoc (take at before) (take n text) (drop (at + n) before)));
+          ends = omega (arith, m);
+        }
 
-pub lay_more : {before text out : List ℕ} {at i place b : ℕ} → Begun before at text out i place → i < length text → place < length out → b ≡ get_or text i 0 → Begun before at text (set out place b) (i + 1) (place + 1)
-lay_more {before} {text} {out} {at} {i} {place} {b} g hi hp e =
-    record { so_far = rw (add-one, take-suc text i 0 hi, ← e) (laid_then g.so_far (laid_one out place b hp)) }
+    k : length after ≡ length before
+    k = ap length first.stands ∙ length-sets before at (take n text)
 
-pub lay_full : {before text out : List ℕ} {at i place : ℕ} → Begun before at text out i place → length out ≤ place → Laid before at text out place
-lay_full {before} {text} {out} {at} {i} {place} g h =
-    let z : Laid before at (take i text ++ drop i text) out place = laid_then g.so_far (laid_out out place (drop i text) h) in
-    rw take-append-drop at z
-
-pub lay_whole : {before text out : List ℕ} {at i place : ℕ} → Begun before at text out i place → length text ≤ i → Laid before at text out place
-lay_whole {before} {text} {out} {at} {i} {place} g h = rw (take_all i text h) at g.so_far
-
-pub ruleset laying = (lay_none, lay_more, lay_full, lay_whole)
+    rest : Dec (length text ≤ n) → Laid after (at + n) (drop n text) after (at + n)
+    rest (yes l) = let z : drop n text ≡ [] = drop_of_length-le text {i = n} l in rw z (record { stands = refl; ends = omega arith })
+    rest (no l) = laid_out after (at + n) (drop n text) (omega (arith, k))

@@ -3,9 +3,9 @@ pub mod Bit
 pub mod Join
 pub mod Digits
 pub mod Lay
-pub mod Padded
+pub mod Pad
+pub mod Arrays
 pub mod Parts
-pub mod Within
 pub mod Zero
 pub mod Same
 pub mod OrderLaws

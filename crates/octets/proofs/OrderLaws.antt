@@ -3,32 +3,36 @@ use mathlib.Core.Path.{◌≡◌, refl, sym, ap, ap₂, ◌∙◌}
 use mathlib.Core.Bool.{Bool, true, false, cond}
 use mathlib.Core.Logic.{◌⊎◌, inl, inr, ⊎_elim}
 use mathlib.Core.List.{List, [], ◌∷◌, ◌++◌}
-use Prim.Native.Nat.{ℕ, ◌+◌, ◌<◌, ◌≤◌}
+use Prim.Native.Nat.{ℕ, ◌<◌, ◌≤◌}
 use native.Mathlib.Nat.{le_refl}
+use native.Mathlib.Decide.{dec_lt}
 use native.Mathlib.Omega.{arith}
-use native.Mathlib.Numerals.{add-one}
 use lib.Dec.{ltb}
-use lib.ListN.{length, get_or, take, drop, drop_of_length-le, take-append-drop}
+use lib.ListN.{length, take, drop, drop_of_length-le, take-append-drop}
 use lib.Seq.{drop-cons}
-use borrow.Author.Tests.{lt-ltb, le-ltb, ltb-true, ltb-false}
+use borrow.Author.Tests.{lt-ltb, le-ltb, ltb-true, ltb-false, eq-eqb, ne_eqb}
+use Rattle.std.specs.Cmp.Lexicographic.{slice_cmp}
+use Rattle.std.specs.Ordering.{nat_cmp, ordering_then}
 use Rattle.octets.specs.Order.{order, is_greater, is_less}
-use Rattle.octets.specs.declared.Order.{Order}
-use Rattle.octets.specs.declared.Order.TheVariants.{Less, Equal, Greater}
+use Rattle.std.specs.declared.cmp.Ordering.{Ordering}
+use Rattle.std.specs.declared.cmp.Ordering.TheVariants.{Less, Equal, Greater}
 
--- ---- from an index on, as a loop goes
+-- ---- the library's order is this one
+pub order_is : (a b : List ℕ) → slice_cmp nat_cmp a b ≡ order a b
+unfolding order
+order_is [] [] = refl
+order_is [] (y ∷ ys) = refl
+order_is (x ∷ xs) [] = refl
+order_is (x ∷ xs) (y ∷ ys) = go (dec_lt x y) (dec_lt y x) (order_is xs ys)
+  where
+    go : Dec (x < y) → Dec (y < x) → slice_cmp nat_cmp xs ys ≡ order xs ys
+        → ordering_then (nat_cmp x y) (slice_cmp nat_cmp xs ys) ≡ cond (ltb x y) Less (cond (ltb y x) Greater (order xs ys))
+    go (yes l) m e = rw (lt-ltb x y l)
+    go (no l) (yes m) e = rw (le-ltb x y (omega arith), lt-ltb y x m, ne_eqb x y (omega arith))
+    go (no l) (no m) e = rw (le-ltb x y (omega arith), le-ltb y x (omega arith), eq-eqb x y (omega arith)) e
+
+-- ---- where one of the two ends
 module _ (a b : List ℕ) (i : ℕ) where
-  pub less_at : i < length a → i < length b → get_or a i 0 < get_or b i 0 → order (drop i a) (drop i b) ≡ Less
-  unfolding order
-  less_at p q l = rw (drop-cons a i 0 p, drop-cons b i 0 q, lt-ltb _ _ l)
-
-  pub greater_at : i < length a → i < length b → get_or b i 0 < get_or a i 0 → order (drop i a) (drop i b) ≡ Greater
-  unfolding order
-  greater_at p q l = rw (drop-cons a i 0 p, drop-cons b i 0 q, lt-ltb _ _ l, le-ltb (get_or a i 0) (get_or b i 0) (omega arith))
-
-  pub same_at : i < length a → i < length b → get_or b i 0 ≤ get_or a i 0 → get_or a i 0 ≤ get_or b i 0 → order (drop i a) (drop i b) ≡ order (drop (i + 1) a) (drop (i + 1) b)
-  unfolding order
-  same_at p q l m = rw (drop-cons a i 0 p, drop-cons b i 0 q, le-ltb (get_or a i 0) (get_or b i 0) l, le-ltb (get_or b i 0) (get_or a i 0) m, add-one)
-
   pub greater_end : i < length a → length b ≤ i → order (drop i a) (drop i b) ≡ Greater
   unfolding order
   greater_end p q = rw (drop-cons a i 0 p, drop_of_length-le b q)
@@ -96,12 +100,12 @@ above_trans (x ∷ xs) (y ∷ ys) (z ∷ zs) e g = go (above_trans xs ys zs)
         (λ (h : (x ≡ y) × (order xs ys ≡ Less)). ⊎_elim (λ (m : z < x). greater_by y z ys zs (omega arith)) (λ (i : (x ≡ z) × (order xs zs ≡ Greater)). greater_on y z ys zs (omega arith) (ih h.1 i.1)) (greater_is x z xs zs g))
         (less_is x y xs ys e)
 
-pub less_of : (o : Order) → is_less o ≡ true → o ≡ Less
+pub less_of : (o : Ordering) → is_less o ≡ true → o ≡ Less
 less_of Less e = refl
 less_of Equal e = cc
 less_of Greater e = cc
 
-pub greater_of : (o : Order) → is_greater o ≡ true → o ≡ Greater
+pub greater_of : (o : Ordering) → is_greater o ≡ true → o ≡ Greater
 greater_of Less e = let z : ◌≡◌ {A = ℕ} 0 1 = cc in absurd (omega arith)
 greater_of Equal e = let z : ◌≡◌ {A = ℕ} 0 1 = cc in absurd (omega arith)
 greater_of Greater e = refl

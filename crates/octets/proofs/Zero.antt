@@ -1,26 +1,18 @@
 -- Bytes joined by `|` are 0 where each is.
-use mathlib.Core.Path.{◌≡◌, refl, ◌∙◌}
+use mathlib.Core.Path.{◌≡◌, refl, sym, ◌∙◌}
 use mathlib.Core.Bool.{Bool, true, false, ◌&&◌, and-true}
 use mathlib.Core.Logic.{◌⊎◌, inl, inr}
-use mathlib.Core.List.{List, [], ◌∷◌, ◌++◌}
+use mathlib.Core.List.{List, [], ◌∷◌}
 use Prim.Native.Nat.{ℕ, zero, suc, ◌<◌}
 use native.Mathlib.Nat.{eq-zero-or-pos}
 use native.Mathlib.Omega.{arith}
 use lib.Bits.{bit_or, or_zero_l, or_add_and, and_le_r}
 use lib.Dec.{eqb}
 use borrow.Author.Tests.{ne_eqb, eqb-true}
-use lib.ListN.{length, take, get_or}
-use lib.Seq.{take-suc}
+use lib.ListN.{length, get_or}
 use Rattle.error.proofs.Tests.{and_left, and_right}
+use Rattle.std.specs.List.{fold}
 use Rattle.octets.specs.Bytes.{all_zero}
-
-snoc : (s : List ℕ) (b : ℕ) → all_zero (s ++ (b ∷ [])) ≡ (all_zero s && eqb b 0)
-snoc [] b = and-true (eqb b 0)
-snoc (x ∷ s) b = rw (snoc s b) (assoc (eqb x 0) (all_zero s) (eqb b 0))
-  where
-    assoc : (p q r : Bool) → (p && (q && r)) ≡ ((p && q) && r)
-    assoc true q r = refl
-    assoc false q r = refl
 
 or_zero : (a b : ℕ) → eqb (bit_or a b) 0 ≡ (eqb a 0 && eqb b 0)
 or_zero a b = go (eq-zero-or-pos a)
@@ -29,9 +21,14 @@ or_zero a b = go (eq-zero-or-pos a)
     go (inl e) = rw (e, or_zero_l)
     go (inr p) = ne_eqb (bit_or a b) 0 (omega (arith, or_add_and a b, and_le_r a b)) ∙ rw (ne_eqb a 0 (omega arith))
 
--- one more byte
-pub zero_more : (s : List ℕ) (i seen : ℕ) → i < length s → eqb seen 0 ≡ all_zero (take i s) → eqb (bit_or seen (get_or s i 0)) 0 ≡ all_zero (take (suc i) s)
-zero_more s i seen h e = rw (take-suc s i 0 h, snoc, ← e) (or_zero seen (get_or s i 0))
+-- all of them
+pub zero_fold : (a : ℕ) (s : List ℕ) → eqb (fold bit_or a s) 0 ≡ (eqb a 0 && all_zero s)
+zero_fold a [] = sym (and-true (eqb a 0))
+zero_fold a (b ∷ s) = zero_fold (bit_or a b) s ∙ rw (or_zero a b) (sym (assoc (eqb a 0) (eqb b 0) (all_zero s)))
+  where
+    assoc : (p q r : Bool) → (p && (q && r)) ≡ ((p && q) && r)
+    assoc true q r = refl
+    assoc false q r = refl
 
 -- each byte of what is all zero is 0, and what has only zeros is all zero
 pub zero_at : (s : List ℕ) → all_zero s ≡ true → (i : ℕ) → get_or s i 0 ≡ 0

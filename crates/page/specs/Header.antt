@@ -1,8 +1,8 @@
 -- The header of a page (01, section 4): its fields, and the checks of `validate_page_header` in their order.
-use Rattle.std.specs.Prelude.{ℕ, Bool, true, not, ◌&&◌, ◌||◌, cond, List, [], ◌∷◌, leb, eqb, length}
+use Rattle.std.specs.Prelude.{ℕ, Bool, true, not, ◌&&◌, ◌||◌, cond, List, [], ◌∷◌, leb, eqb, length, Option, Some, None}
 use Rattle.error.specs.declared.Error.TheVariants.{InvalidInput, Corrupt, UnsupportedFormat}
 use Rattle.error.specs.declared.Validation.TheVariants.{Input}
-use Rattle.error.specs.declared.Check.{Check}
+use Rattle.error.specs.Answer.{Check}
 use Rattle.error.specs.Demand.{Demand, ◌otherwise◌, passing, demands}
 use Rattle.error.specs.Reason as reason
 use Rattle.octets.specs.Bytes.{byte_at, part, all_zero, same_bytes, starts_with}
@@ -11,7 +11,6 @@ use Rattle.crc.specs.Crc.{crc32c_with_zero}
 use Rattle.volume.specs.declared.TreeRef.{TreeRef}
 use Rattle.volume.specs.declared.TreeKind.{TreeKind}
 use Rattle.volume.specs.References.{tree_kind_value, is_tree_kind_value, validate_blocks, validate_page_ref, validate_uuid}
-use Rattle.page.specs.declared.Expected.{Expected}
 
 -- ---- the fields
 
@@ -54,16 +53,16 @@ total page = u64_at page 56
 -- ---- the caller's part
 
 -- 01, "The program readback": 255 is a level that isn't given
-unfoldable pub expected_of : ℕ → Expected
-expected_of n = cond (eqb n 255) Expected.Any (Expected.Exactly n)
+unfoldable pub expected_of : ℕ → Option ℕ
+expected_of n = cond (eqb n 255) None (Some n)
 
 -- `validate_page_header`, READING-RULES 7.2: a level that is expected, if any, is at most 7
-unfoldable pub is_level : Expected → Bool
-is_level Expected.Any = true
-is_level (Expected.Exactly n) = leb n 7
+unfoldable pub is_level : Option ℕ → Bool
+is_level None = true
+is_level (Some n) = leb n 7
 
 -- `validate_page_header`, READING-RULES 7.2: what is asked of the caller's part, in order
-abbrev pub caller_demands : TreeRef → List ℕ → TreeKind → ℕ → Expected → ℕ → List ℕ → List Demand
+abbrev pub caller_demands : TreeRef → List ℕ → TreeKind → ℕ → Option ℕ → ℕ → List ℕ → List Demand
 caller_demands reference uuid kind parent expected blocks page =
     eqb (length page) 4096 otherwise Corrupt reason.page_length
     ∷ passing (validate_blocks blocks Input)
@@ -74,7 +73,7 @@ caller_demands reference uuid kind parent expected blocks page =
     ∷ []
 
 -- 01, "Return classes": the first that fails answers
-unfoldable pub check_caller : TreeRef → List ℕ → TreeKind → ℕ → Expected → ℕ → List ℕ → Check
+unfoldable pub check_caller : TreeRef → List ℕ → TreeKind → ℕ → Option ℕ → ℕ → List ℕ → Check
 check_caller reference uuid kind parent expected blocks page = demands (caller_demands reference uuid kind parent expected blocks page)
 
 -- ---- the stored part
@@ -110,9 +109,9 @@ level_fits page =
     (not (eqb (page_kind page) 1) || eqb (level page) 0) && (not (eqb (page_kind page) 2) || (leb 1 (level page) && leb (level page) 7))
 
 -- `validate_page_header`, READING-RULES 7.2: the level is the expected one, if one is given
-unfoldable pub is_expected : Expected → List ℕ → Bool
-is_expected Expected.Any page = true
-is_expected (Expected.Exactly n) page = eqb n (level page)
+unfoldable pub is_expected : Option ℕ → List ℕ → Bool
+is_expected None page = true
+is_expected (Some n) page = eqb n (level page)
 
 -- section 4: zeros at 15, 36..39, 68..79
 unfoldable pub reserved_zero : List ℕ → Bool
@@ -123,7 +122,7 @@ unfoldable pub is_of_tree : TreeKind → List ℕ → Bool
 is_of_tree kind page = eqb (tree_kind page) (tree_kind_value kind)
 
 -- `validate_page_header`, READING-RULES 7.2: what is asked of kinds, level and reserved bytes, in order
-abbrev pub kind_demands : TreeKind → Expected → List ℕ → List Demand
+abbrev pub kind_demands : TreeKind → Option ℕ → List ℕ → List Demand
 kind_demands kind expected page =
     is_page_kind page otherwise Corrupt reason.page_kind
     ∷ is_tree_kind page otherwise Corrupt reason.page_tree_kind
@@ -134,7 +133,7 @@ kind_demands kind expected page =
     ∷ []
 
 -- 01, "Return classes": the first that fails answers
-unfoldable pub check_kind : TreeKind → Expected → List ℕ → Check
+unfoldable pub check_kind : TreeKind → Option ℕ → List ℕ → Check
 check_kind kind expected page = demands (kind_demands kind expected page)
 
 -- `validate_page_header`, READING-RULES 7.2: the page is the one that the reference names, and not newer than its parent
@@ -170,7 +169,7 @@ check_identity reference uuid kind parent blocks page = demands (identity_demand
 -- ---- the header
 
 -- `validate_page_header`, READING-RULES 7.2: all checks of the header, group by group, in order
-abbrev pub header_demands : TreeRef → List ℕ → TreeKind → ℕ → Expected → ℕ → List ℕ → List Demand
+abbrev pub header_demands : TreeRef → List ℕ → TreeKind → ℕ → Option ℕ → ℕ → List ℕ → List Demand
 header_demands reference uuid kind parent expected blocks page =
     passing (check_caller reference uuid kind parent expected blocks page)
     ∷ passing (check_format page)
@@ -179,5 +178,5 @@ header_demands reference uuid kind parent expected blocks page =
     ∷ []
 
 -- 01, "Return classes": the first that fails answers
-unfoldable pub validate_page_header : TreeRef → List ℕ → TreeKind → ℕ → Expected → ℕ → List ℕ → Check
+unfoldable pub validate_page_header : TreeRef → List ℕ → TreeKind → ℕ → Option ℕ → ℕ → List ℕ → Check
 validate_page_header reference uuid kind parent expected blocks page = demands (header_demands reference uuid kind parent expected blocks page)

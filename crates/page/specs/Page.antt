@@ -1,11 +1,9 @@
 -- A page (01, section 4): the header, then the records, the leaf's total, the padding, and two children in an internal page.
-use Rattle.std.specs.Prelude.{ℕ, ◌+◌, Bool, not, ◌||◌, List, [], ◌∷◌, leb, eqb, drop}
+use Rattle.std.specs.Prelude.{ℕ, ◌+◌, Bool, not, ◌||◌, List, [], ◌∷◌, leb, eqb, drop, Option, Result, Ok}
 use Rattle.error.specs.declared.Error.{Error}
 use Rattle.error.specs.declared.Error.TheVariants.{Corrupt}
 use Rattle.error.specs.declared.Validation.TheVariants.{Disk}
-use Rattle.error.specs.declared.Check.{Check}
-use Rattle.error.specs.declared.Number.{Number}
-use Rattle.error.specs.Answer.{class_of, reason_of, number_check, number_of}
+use Rattle.error.specs.Answer.{Check, Number, number_of}
 use Rattle.error.specs.Demand.{Demand, ◌otherwise◌, passing, outcome, demands}
 use Rattle.error.specs.Reason as reason
 use Rattle.octets.specs.Bytes.{all_zero}
@@ -13,7 +11,6 @@ use Rattle.volume.specs.declared.TreeRef.{TreeRef}
 use Rattle.volume.specs.declared.TreeKind.{TreeKind}
 use Rattle.walk.specs.declared.RecordValidation.{RecordValidation}
 use Rattle.walk.specs.Records.{validate_records}
-use Rattle.page.specs.declared.Expected.{Expected}
 use Rattle.page.specs.declared.Page.{Page}
 use Rattle.page.specs.Header.{page_kind, level, generation, count, payload_length, total, validate_page_header}
 
@@ -46,7 +43,7 @@ enough_children page = not (eqb (page_kind page) 2) || leb 2 (count page)
 -- section 4: last, records, leaf total, zero padding, two children in an internal page
 abbrev pub content_demands : TreeKind → ℕ → List ℕ → List Demand
 content_demands kind blocks page =
-    passing (number_check (validate_page_records kind blocks page))
+    passing (validate_page_records kind blocks page)
     ∷ total_fits page (number_of (validate_page_records kind blocks page)) otherwise Corrupt reason.leaf_data_block_total
     ∷ padding_zero page otherwise Corrupt reason.page_padding
     ∷ enough_children page otherwise Corrupt reason.internal_page_has_too_few_children
@@ -57,35 +54,33 @@ unfoldable pub check_content : TreeKind → ℕ → List ℕ → Check
 check_content kind blocks page = demands (content_demands kind blocks page)
 
 -- every check of `decode_page`, in its order
-abbrev pub page_demands : TreeRef → List ℕ → TreeKind → ℕ → Expected → ℕ → List ℕ → List Demand
+abbrev pub page_demands : TreeRef → List ℕ → TreeKind → ℕ → Option ℕ → ℕ → List ℕ → List Demand
 page_demands reference uuid kind parent expected blocks page =
     passing (validate_page_header reference uuid kind parent expected blocks page)
     ∷ passing (check_content kind blocks page)
     ∷ []
 
 -- 01, "Return classes": the first that fails answers
-unfoldable pub check_page : TreeRef → List ℕ → TreeKind → ℕ → Expected → ℕ → List ℕ → Check
+unfoldable pub check_page : TreeRef → List ℕ → TreeKind → ℕ → Option ℕ → ℕ → List ℕ → Check
 check_page reference uuid kind parent expected blocks page = demands (page_demands reference uuid kind parent expected blocks page)
 
 -- ---- the answer in numbers
 
--- 01, "Return classes": beside a refusal each number is 0
-abbrev pub refused_page : Error → Page
-refused_page e = record { class = class_of e; reason = reason_of e; level = 0; data_blocks = 0; count = 0; start = 0; end = 0 }
-
--- the level, the total and the count that the page states, and its payload from byte 80 on
-abbrev pub accepted_page : List ℕ → Page
-accepted_page page = record {
-  class = 0;
-  reason = 0;
+-- the level and the count that the page states, its payload from byte 80 on, and a total
+abbrev pub stated_page : List ℕ → ℕ → Page
+stated_page page data_blocks = record {
   level = level page;
-  data_blocks = total page;
+  data_blocks = data_blocks;
   count = count page;
   start = 80;
   end = 80 + payload_length page;
 }
 
--- section 4: `decode_page`, in numbers
-unfoldable pub decode_page : TreeRef → List ℕ → TreeKind → ℕ → Expected → ℕ → List ℕ → Page
+-- the same with the total that it states
+abbrev pub accepted_page : List ℕ → Page
+accepted_page page = stated_page page (total page)
+
+-- section 4: `decode_page`, in numbers: the refusal of the first check that fails, or what the page states
+unfoldable pub decode_page : TreeRef → List ℕ → TreeKind → ℕ → Option ℕ → ℕ → List ℕ → Result Page Error
 decode_page reference uuid kind parent expected blocks page =
-    outcome (page_demands reference uuid kind parent expected blocks page) refused_page (accepted_page page)
+    outcome (page_demands reference uuid kind parent expected blocks page) (Ok (accepted_page page))

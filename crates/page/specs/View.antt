@@ -1,34 +1,51 @@
 -- Views of a page (01, sections 4 and 7): what they say of it, and the parts of its own memory that they refer to.
-use Rattle.std.specs.Prelude.{◌≡◌, ℕ, ◌-◌, List}
+use Rattle.std.specs.Prelude.{◌≡◌, ℕ, ◌-◌, List, Option, Some, None, Result, Ok, Err}
 use Rattle.std.specs.Borrow.{Bor}
+use Rattle.error.specs.declared.Error.{Error}
 use Rattle.octets.specs.Bytes.{IsPart, IsRest}
 use Rattle.lookup.specs.declared.Answer.{Answer}
 use Rattle.lookup.specs.declared.Step.{Step}
 use Rattle.page.specs.declared.Page.{Page}
 use Rattle.page.specs.declared.view.PageView.{PageView}
-use Rattle.page.specs.declared.view.Next.{Next}
-use Rattle.page.specs.declared.view.FloorRecord.{FloorRecord}
+use Rattle.page.specs.declared.view.Records.{Records}
 
 -- section 4: the view of an answer has its numbers, and the page's part from where the payload starts to where it ends
-pub record Views (page : Bor (List ℕ)) (answer : Page) (r : PageView) : Type 0 where
-  pub class : r.class ≡ answer.class
-  pub reason : r.reason ≡ answer.reason
-  pub level : r.level ≡ answer.level
-  pub total : r.data_blocks ≡ answer.data_blocks
-  pub count : r.count ≡ answer.count
-  pub payload : IsPart page answer.start (answer.end - answer.start) r.payload
+pub record IsView (page : Bor (List ℕ)) (answer : Page) (v : PageView) : Type 0 where
+  pub level : v.level ≡ answer.level
+  pub total : v.data_blocks ≡ answer.data_blocks
+  pub count : v.count ≡ answer.count
+  pub payload : IsPart page answer.start (answer.end - answer.start) v.payload
 
--- section 7: a floor record has the answer's numbers, and the payload from the record on, or an empty part of it
-pub record Found (payload : Bor (List ℕ)) (a : Answer) (r : FloorRecord) : Type 0 where
-  pub found : r.found ≡ a.found
-  pub index : r.index ≡ a.index
-  pub remaining : r.remaining ≡ a.remaining
-  pub from : IsPart payload a.from (a.end - a.from) r.payload
+-- section 4: where the answer is a refusal, it is the view's; otherwise there is a view of it
+abbrev pub Views : Bor (List ℕ) → Result Page Error → Result PageView Error → Type 0
+Views page (Ok answer) (Ok v) = IsView page answer v
+Views page (Ok answer) (Err e) = ⊥
+Views page (Err e) (Ok v) = ⊥
+Views page (Err e) (Err d) = d ≡ e
 
--- `next` of `Records`: the record at a step's places of a payload, and the payload after it
-pub record Stepped (payload : Bor (List ℕ)) (s : Step) (r : Next) : Type 0 where
-  pub found : r.found ≡ s.found
-  pub key : IsPart payload s.key_start (s.key_end - s.key_start) r.key
-  pub value : IsPart payload s.key_end (s.value_end - s.key_end) r.value
-  pub rest : IsRest payload s.value_end r.payload
-  pub remaining : r.remaining ≡ s.remaining
+-- section 7: a floor record has the answer's index, and as many records from it on, which are the payload from there to its end
+pub record IsFound (payload : Bor (List ℕ)) (a : Answer) (index : ℕ) (records : Records) : Type 0 where
+  pub index_is : index ≡ a.index
+  pub remaining : records.remaining ≡ a.remaining
+  pub from : IsPart payload a.from (a.end - a.from) records.payload
+
+-- section 7: there is a floor record exactly where there is an answer
+abbrev pub Found : Bor (List ℕ) → Option Answer → Option (ℕ × Records) → Type 0
+Found payload (Some a) (Some r) = IsFound payload a r.0 r.1
+Found payload (Some a) None = ⊥
+Found payload None (Some r) = ⊥
+Found payload None None = Unit
+
+-- `next` of `Records`: the record at a step's places of a payload, and what is left: the payload after it, and so many records
+pub record IsStep (before : Records) (s : Step) (key value : Bor (List ℕ)) (after : Records) : Type 0 where
+  pub key_is : IsPart before.payload s.key_start (s.key_end - s.key_start) key
+  pub value_is : IsPart before.payload s.key_end (s.value_end - s.key_end) value
+  pub rest : IsRest before.payload s.value_end after.payload
+  pub remaining : after.remaining ≡ s.remaining
+
+-- `next` of `Records`: a record is given exactly where there is a step; where there is none nothing is passed
+abbrev pub Stepped : Records → Option Step → Option (Bor (List ℕ) × Bor (List ℕ)) → Records → Type 0
+Stepped before (Some s) (Some r) after = IsStep before s r.0 r.1 after
+Stepped before (Some s) None after = ⊥
+Stepped before None (Some r) after = ⊥
+Stepped before None None after = after ≡ before

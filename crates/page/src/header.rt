@@ -1,60 +1,22 @@
 // The checks of a page's header, in the order of the Rust's `validate_page_header`.
 ghost use Rattle.std.specs.Prelude.{◌≡◌};
 ghost use Rattle.page.specs.Header.{is_level, check_caller, checksum_fits, check_format, is_page_kind, is_tree_kind, level_fits, is_expected, reserved_zero, is_of_tree, check_kind, is_referred, has_uuid, total_allowed, check_identity, validate_page_header};
+ghost use Rattle.page.specs.Unchecked.{is_asked_for};
 
-use crate::Expected;
 use crate::view::PageView;
-use error::{Check, Error, Validation, reason};
+use error::{Error, Validation, reason};
 use volume::{TreeKind, TreeRef};
 
-fn is_level(expected: Expected) -> bool
+// A level that is expected, if any is, is at most 7.
+#[tactic(auto, unfolding(crate::specs::Header::is_level))]
+fn is_level(expected: Option<u8>) -> bool
     ensures { result ≡ is_level expected }
 {
-    match expected {
-        Expected::Any => true,
-        Expected::Exactly(level) => level <= 7,
-    }
+    expected.is_none_or(|level| level <= 7)
 }
 
-// The checks of the caller's part.
-fn check_caller(
-    reference: TreeRef,
-    uuid: &[u8; 16],
-    kind: TreeKind,
-    parent: u64,
-    expected: Expected,
-    blocks: u64,
-    page: &[u8],
-) -> Check
-    ensures { result ≡ check_caller reference uuid.now kind parent expected blocks page.now }
-{
-    if page.len() != PageView::BYTES {
-        return Check::Refused(Error::Corrupt(reason::PAGE_LENGTH));
-    }
-    let range = volume::validate_blocks(blocks, Validation::Input);
-    let Check::Passed = range else {
-        return range;
-    };
-    let place = volume::validate_page_ref(reference, kind, blocks, Validation::Input);
-    let Check::Passed = place else {
-        return place;
-    };
-    let identity = volume::validate_uuid(uuid, Validation::Input);
-    let Check::Passed = identity else {
-        return identity;
-    };
-    if parent == 0 {
-        return Check::Refused(Error::InvalidInput(reason::INVALID_PARENT_GENERATION));
-    }
-    if parent < reference.generation {
-        return Check::Refused(Error::InvalidInput(reason::INVALID_PARENT_GENERATION));
-    }
-    if !is_level(expected) {
-        return Check::Refused(Error::InvalidInput(reason::INVALID_EXPECTED_PAGE_LEVEL));
-    }
-    Check::Passed
-}
-
+// The stored checksum is the one of the page, with its own four bytes as zero.
+#[tactic(auto, unfolding(crate::specs::Header::checksum_fits))]
 fn checksum_fits(page: &[u8]) -> bool
     ensures { result ≡ checksum_fits page.now }
 {
@@ -63,110 +25,97 @@ fn checksum_fits(page: &[u8]) -> bool
 }
 
 // The checksum, the magic, and what would make it another format.
-fn check_format(page: &[u8]) -> Check
+#[tactic(auto, unfolding(crate::specs::Header::check_format, error::specs::Demand::outcome))]
+fn check_format(page: &[u8]) -> Result<(), Error>
     ensures { result ≡ check_format page.now }
 {
     if !checksum_fits(page) {
-        return Check::Refused(Error::Corrupt(reason::PAGE_CHECKSUM));
+        return Err(Error::Corrupt(reason::PAGE_CHECKSUM));
     }
     if !octets::starts_with(page, &PageView::MAGIC) {
-        return Check::Refused(Error::Corrupt(reason::PAGE_MAGIC));
+        return Err(Error::Corrupt(reason::PAGE_MAGIC));
     }
     if octets::u16_at(page, PageView::REVISION_OFFSET) != PageView::REVISION {
-        return Check::Refused(Error::UnsupportedFormat);
+        return Err(Error::UnsupportedFormat);
     }
     if octets::u16_at(page, PageView::FLAGS_OFFSET) != 0 {
-        return Check::Refused(Error::UnsupportedFormat);
+        return Err(Error::UnsupportedFormat);
     }
-    Check::Passed
+    Ok(())
 }
 
+// The page is a leaf, 1, or an internal page, 2.
+#[tactic(auto, unfolding(crate::specs::Header::is_page_kind))]
 fn is_page_kind(page: &[u8]) -> bool
     ensures { result ≡ is_page_kind page.now }
 {
-    let kind = octets::byte_at(page, PageView::PAGE_KIND_OFFSET);
-    (kind == 1) | (kind == 2)
+    matches!(octets::byte_at(page, PageView::PAGE_KIND_OFFSET), 1 | 2)
 }
 
+// The number of a tree's kind is 1 to 4.
+#[tactic(auto, unfolding(crate::specs::Header::is_tree_kind))]
 fn is_tree_kind(page: &[u8]) -> bool
     ensures { result ≡ is_tree_kind page.now }
 {
-    let kind = octets::byte_at(page, PageView::TREE_KIND_OFFSET);
-    (1 <= kind) & (kind <= 4)
+    (1..=4).contains(&octets::byte_at(page, PageView::TREE_KIND_OFFSET))
 }
 
+// A leaf's level is 0, an internal page's 1 to 7.
+#[tactic(auto, unfolding(crate::specs::Header::level_fits))]
 fn level_fits(page: &[u8]) -> bool
     ensures { result ≡ level_fits page.now }
 {
-    let kind = octets::byte_at(page, PageView::PAGE_KIND_OFFSET);
     let level = octets::byte_at(page, PageView::LEVEL_OFFSET);
-    ((kind != 1) | (level == 0)) & ((kind != 2) | ((1 <= level) & (level <= 7)))
-}
-
-// Whether the page's level is the one that is expected, if any is.
-pub fn is_expected(expected: Expected, page: &[u8]) -> bool
-    ensures { result ≡ is_expected expected page.now }
-{
-    match expected {
-        Expected::Any => true,
-        Expected::Exactly(level) => level == octets::byte_at(page, PageView::LEVEL_OFFSET),
+    match octets::byte_at(page, PageView::PAGE_KIND_OFFSET) {
+        1 => level == 0,
+        2 => (1..=7).contains(&level),
+        _ => true,
     }
 }
 
+// Whether the page's level is the one that is expected, if any is.
+#[tactic(auto, unfolding(crate::specs::Header::is_expected))]
+pub fn is_expected(expected: Option<u8>, page: &[u8]) -> bool
+    ensures { result ≡ is_expected expected page.now }
+{
+    expected.is_none_or(|level| level == octets::byte_at(page, PageView::LEVEL_OFFSET))
+}
+
+// The bytes that no field takes are zero.
+#[tactic(auto, unfolding(crate::specs::Header::reserved_zero))]
 fn reserved_zero(page: &[u8]) -> bool
     ensures { result ≡ reserved_zero page.now }
 {
-    (octets::byte_at(page, PageView::ZERO_OFFSET) == 0)
-        & (octets::all_zero(octets::span(page, PageView::ZEROS_OFFSET, PageView::UUID_OFFSET))
-            & octets::all_zero(octets::span(
-                page,
-                PageView::MORE_ZEROS_OFFSET,
-                PageView::PAYLOAD_OFFSET,
-            )))
+    octets::byte_at(page, PageView::ZERO_OFFSET) == 0
+        && octets::all_zero(octets::span(page, PageView::ZEROS_OFFSET, PageView::UUID_OFFSET))
+        && octets::all_zero(octets::span(
+            page,
+            PageView::MORE_ZEROS_OFFSET,
+            PageView::PAYLOAD_OFFSET,
+        ))
 }
 
 // Whether the page is of the tree that is asked for.
+#[tactic(auto, unfolding(crate::specs::Header::is_of_tree))]
 pub fn is_of_tree(kind: TreeKind, page: &[u8]) -> bool
     ensures { result ≡ is_of_tree kind page.now }
 {
     octets::byte_at(page, PageView::TREE_KIND_OFFSET) == volume::tree_kind_value(kind)
 }
 
-// Page kind, tree kind, level and reserved bytes.
-fn check_kind(kind: TreeKind, expected: Expected, page: &[u8]) -> Check
-    ensures { result ≡ check_kind kind expected page.now }
-{
-    if !is_page_kind(page) {
-        return Check::Refused(Error::Corrupt(reason::PAGE_KIND));
-    }
-    if !is_tree_kind(page) {
-        return Check::Refused(Error::Corrupt(reason::PAGE_TREE_KIND));
-    }
-    if !is_of_tree(kind, page) {
-        return Check::Refused(Error::Corrupt(reason::PAGE_TREE_KIND_MISMATCH));
-    }
-    if !level_fits(page) {
-        return Check::Refused(Error::Corrupt(reason::PAGE_LEVEL));
-    }
-    if !is_expected(expected, page) {
-        return Check::Refused(Error::Corrupt(reason::UNEXPECTED_PAGE_LEVEL));
-    }
-    if !reserved_zero(page) {
-        return Check::Refused(Error::Corrupt(reason::PAGE_RESERVED_BYTES));
-    }
-    Check::Passed
-}
-
 // Whether the page is the one that the reference names, and not newer than its parent.
+#[tactic(auto, unfolding(crate::specs::Header::is_referred))]
 pub fn is_referred(reference: TreeRef, parent: u64, page: &[u8]) -> bool
     ensures { result ≡ is_referred reference parent page.now }
 {
     let generation = octets::u64_at(page, PageView::GENERATION_OFFSET);
-    (octets::u64_at(page, PageView::SELF_BLOCK_OFFSET) == reference.block)
-        & ((generation == reference.generation) & (generation <= parent))
+    octets::u64_at(page, PageView::SELF_BLOCK_OFFSET) == reference.block
+        && generation == reference.generation
+        && generation <= parent
 }
 
 // Whether the volume's UUID stands in the page.
+#[tactic(auto, unfolding(crate::specs::Header::has_uuid))]
 pub fn has_uuid(uuid: &[u8; 16], page: &[u8]) -> bool
     ensures { result ≡ has_uuid uuid.now page.now }
 {
@@ -176,69 +125,115 @@ pub fn has_uuid(uuid: &[u8; 16], page: &[u8]) -> bool
     )
 }
 
+// Outside the catalog the total is 0.
+#[tactic(auto, unfolding(crate::specs::Header::total_allowed))]
 fn total_allowed(kind: TreeKind, page: &[u8]) -> bool
     ensures { result ≡ total_allowed kind page.now }
 {
-    match kind {
-        TreeKind::Catalog => true,
-        TreeKind::Allocation => octets::u64_at(page, PageView::TOTAL_OFFSET) == 0,
-        TreeKind::Cleanup => octets::u64_at(page, PageView::TOTAL_OFFSET) == 0,
-        TreeKind::Workspace => octets::u64_at(page, PageView::TOTAL_OFFSET) == 0,
-    }
+    kind == TreeKind::Catalog || octets::u64_at(page, PageView::TOTAL_OFFSET) == 0
 }
 
-// Which page it is, and the numbers that it states.
-fn check_identity(
-    reference: TreeRef,
-    uuid: &[u8; 16],
-    kind: TreeKind,
-    parent: u64,
-    blocks: u64,
-    page: &[u8],
-) -> Check
-    ensures { result ≡ check_identity reference uuid.now kind parent blocks page.now }
-{
-    if !is_referred(reference, parent, page) {
-        return Check::Refused(Error::Corrupt(reason::PAGE_IDENTITY_OR_GENERATION));
-    }
-    if !has_uuid(uuid, page) {
-        return Check::Refused(Error::Corrupt(reason::PAGE_UUID));
-    }
-    if PageView::PAYLOAD_BYTES < octets::u16_at(page, PageView::PAYLOAD_LENGTH_OFFSET) as usize {
-        return Check::Refused(Error::Corrupt(reason::PAGE_PAYLOAD_LENGTH));
-    }
-    if blocks < octets::u64_at(page, PageView::TOTAL_OFFSET) {
-        return Check::Refused(Error::Corrupt(reason::PAGE_DATA_BLOCK_TOTAL));
-    }
-    if !total_allowed(kind, page) {
-        return Check::Refused(Error::Corrupt(reason::NON_CATALOG_DATA_BLOCK_TOTAL));
-    }
-    Check::Passed
+// What a caller asks for: the page's reference, the volume's UUID, the tree, its parent's generation, and the level, if one is expected.
+#[derive(Clone, Copy)]
+pub(crate) struct Asked<'a> {
+    pub reference: TreeRef,
+    pub uuid: &'a [u8; 16],
+    pub kind: TreeKind,
+    pub parent: u64,
+    pub expected: Option<u8>,
 }
 
-// Every check of the header.
-pub fn validate_page_header(
-    reference: TreeRef,
-    uuid: &[u8; 16],
-    kind: TreeKind,
-    parent: u64,
-    expected: Expected,
-    blocks: u64,
-    page: &[u8],
-) -> Check
-    ensures { result ≡ validate_page_header reference uuid.now kind parent expected blocks page.now }
-{
-    let caller = check_caller(reference, uuid, kind, parent, expected, blocks, page);
-    let Check::Passed = caller else {
-        return caller;
-    };
-    let format = check_format(page);
-    let Check::Passed = format else {
-        return format;
-    };
-    let kinds = check_kind(kind, expected, page);
-    let Check::Passed = kinds else {
-        return kinds;
-    };
-    check_identity(reference, uuid, kind, parent, blocks, page)
+impl Asked<'_> {
+    // The checks of the caller's part.
+    #[tactic(auto, unfolding(crate::specs::Header::check_caller, error::specs::Demand::outcome))]
+    fn check_caller(self, blocks: u64, page: &[u8]) -> Result<(), Error>
+        ensures { result ≡ check_caller self.entry.reference self.entry.uuid.now self.entry.kind self.entry.parent self.entry.expected blocks page.now }
+    {
+        if page.len() != PageView::BYTES {
+            return Err(Error::Corrupt(reason::PAGE_LENGTH));
+        }
+        volume::validate_blocks(blocks, Validation::Input)?;
+        volume::validate_page_ref(self.reference, self.kind, blocks, Validation::Input)?;
+        volume::validate_uuid(self.uuid, Validation::Input)?;
+        if self.parent == 0 || self.parent < self.reference.generation {
+            return Err(Error::InvalidInput(reason::INVALID_PARENT_GENERATION));
+        }
+        if !is_level(self.expected) {
+            return Err(Error::InvalidInput(reason::INVALID_EXPECTED_PAGE_LEVEL));
+        }
+        Ok(())
+    }
+
+    // Page kind, tree kind, level and reserved bytes.
+    #[tactic(auto, unfolding(crate::specs::Header::check_kind, error::specs::Demand::outcome))]
+    fn check_kind(self, page: &[u8]) -> Result<(), Error>
+        ensures { result ≡ check_kind self.entry.kind self.entry.expected page.now }
+    {
+        if !is_page_kind(page) {
+            return Err(Error::Corrupt(reason::PAGE_KIND));
+        }
+        if !is_tree_kind(page) {
+            return Err(Error::Corrupt(reason::PAGE_TREE_KIND));
+        }
+        if !is_of_tree(self.kind, page) {
+            return Err(Error::Corrupt(reason::PAGE_TREE_KIND_MISMATCH));
+        }
+        if !level_fits(page) {
+            return Err(Error::Corrupt(reason::PAGE_LEVEL));
+        }
+        if !is_expected(self.expected, page) {
+            return Err(Error::Corrupt(reason::UNEXPECTED_PAGE_LEVEL));
+        }
+        if !reserved_zero(page) {
+            return Err(Error::Corrupt(reason::PAGE_RESERVED_BYTES));
+        }
+        Ok(())
+    }
+
+    // Which page it is, and the numbers that it states.
+    #[tactic(auto, unfolding(crate::specs::Header::check_identity, error::specs::Demand::outcome))]
+    fn check_identity(self, blocks: u64, page: &[u8]) -> Result<(), Error>
+        ensures { result ≡ check_identity self.entry.reference self.entry.uuid.now self.entry.kind self.entry.parent blocks page.now }
+    {
+        if !is_referred(self.reference, self.parent, page) {
+            return Err(Error::Corrupt(reason::PAGE_IDENTITY_OR_GENERATION));
+        }
+        if !has_uuid(self.uuid, page) {
+            return Err(Error::Corrupt(reason::PAGE_UUID));
+        }
+        if PageView::PAYLOAD_BYTES
+            < usize::from(octets::u16_at(page, PageView::PAYLOAD_LENGTH_OFFSET))
+        {
+            return Err(Error::Corrupt(reason::PAGE_PAYLOAD_LENGTH));
+        }
+        if blocks < octets::u64_at(page, PageView::TOTAL_OFFSET) {
+            return Err(Error::Corrupt(reason::PAGE_DATA_BLOCK_TOTAL));
+        }
+        if !total_allowed(self.kind, page) {
+            return Err(Error::Corrupt(reason::NON_CATALOG_DATA_BLOCK_TOTAL));
+        }
+        Ok(())
+    }
+
+    // Every check of the header.
+    #[tactic(auto, unfolding(crate::specs::Header::validate_page_header, error::specs::Demand::outcome))]
+    pub fn validate_page_header(self, blocks: u64, page: &[u8]) -> Result<(), Error>
+        ensures { result ≡ validate_page_header self.entry.reference self.entry.uuid.now self.entry.kind self.entry.parent self.entry.expected blocks page.now }
+    {
+        self.check_caller(blocks, page)?;
+        check_format(page)?;
+        self.check_kind(page)?;
+        self.check_identity(blocks, page)
+    }
+
+    // Whether the page is the one that is asked for, whatever else it holds.
+    #[tactic(auto, unfolding(crate::specs::Unchecked::is_asked_for))]
+    pub fn is_asked_for(self, page: &[u8]) -> bool
+        ensures { result ≡ is_asked_for self.entry.reference self.entry.uuid.now self.entry.kind self.entry.parent self.entry.expected page.now }
+    {
+        is_referred(self.reference, self.parent, page)
+            && is_of_tree(self.kind, page)
+            && is_expected(self.expected, page)
+            && has_uuid(self.uuid, page)
+    }
 }

@@ -1,14 +1,14 @@
 // A view of a page: what was read of its header, and the part of the caller's bytes that holds its records.
 ghost use Rattle.std.specs.Prelude.{◌≡◌, ◌*◌, ◌<◌, eqb, length};
+ghost use Rattle.std.specs.Iterator.{at_most};
 ghost use Rattle.lookup.specs.Floor.{floor_answer, scratch_of, next_record};
-ghost use Rattle.page.specs.View.{Views, Found, Stepped};
+ghost use Rattle.page.specs.View.{IsView, Found, Stepped};
 
 use crate::Page;
 
+// What was read of a page, and its payload in place.
 #[derive(Clone, Copy)]
 pub struct PageView<'a> {
-    pub class: u16,
-    pub reason: u16,
     pub level: u8,
     pub data_blocks: u64,
     pub count: usize,
@@ -57,55 +57,57 @@ impl<'a> PageView<'a> {
 
     pub const MORE_ZEROS_OFFSET: usize = 68;
 
+    // How many records the page has.
     pub fn len(self) -> usize
         ensures { result ≡ self.entry.count }
     {
         self.count
     }
 
+    // Whether it has none.
     pub fn is_empty(self) -> bool
         ensures { result ≡ eqb self.entry.count 0 }
     {
         self.count == 0
     }
 
+    // The bytes of its records.
     pub fn payload(self) -> &'a [u8]
         ensures { result ≡ self.entry.payload }
     {
         self.payload
     }
-}
 
-// What a floor lookup answers: whether there is a record, its index, how many there are from it on, and the payload from it on.
-#[derive(Clone, Copy)]
-pub struct FloorRecord<'a> {
-    pub found: bool,
-    pub index: usize,
-    pub remaining: usize,
-    pub payload: &'a [u8],
-}
-
-impl<'a> PageView<'a> {
-    pub fn floor_record(self, key: &[u8], offsets: &mut [u16]) -> FloorRecord<'a>
-        ensures { Found self.entry.payload (floor_answer self.entry.payload.now self.entry.count key.now (length offsets.old)) result × (offsets.new ≡ scratch_of self.entry.payload.now self.entry.count offsets.old) }
+    // The page's records, in the order of their keys.
+    pub fn records(self) -> Records<'a>
+        ensures payload { result.payload ≡ self.entry.payload }
+        ensures remaining { result.remaining ≡ self.entry.count }
     {
-        let a = lookup::floor_answer(self.payload, self.count, key, offsets);
-        FloorRecord {
-            found: a.found,
-            index: a.index,
-            remaining: a.remaining,
-            payload: octets::span(self.payload, a.from, a.end),
+        Records {
+            payload: self.payload,
+            remaining: self.count,
         }
+    }
+
+    // The last record whose key is not above the sought one: its index, and the records from it on.
+    pub fn floor_record(self, key: &[u8], offsets: &mut [u16]) -> Option<(usize, Records<'a>)>
+        ensures found { Found self.entry.payload (floor_answer self.entry.payload.now self.entry.count key.now (length offsets.old)) result }
+        ensures scratch { offsets.new ≡ scratch_of self.entry.payload.now self.entry.count offsets.old }
+    {
+        let a = lookup::floor_answer(self.payload, self.count, key, offsets)?;
+        let records = Records {
+            payload: octets::span(self.payload, a.from, a.end),
+            remaining: a.remaining,
+        };
+        Some((a.index, records))
     }
 }
 
 // The view of an answer: its numbers, and the part of the page that holds its records.
 pub fn view_of<'a>(page: &'a [u8], answer: Page) -> PageView<'a>
-    ensures { Views page.entry answer result }
+    ensures { IsView page.entry answer result }
 {
     PageView {
-        class: answer.class,
-        reason: answer.reason,
         level: answer.level,
         data_blocks: answer.data_blocks,
         count: answer.count,
@@ -120,38 +122,32 @@ pub struct Records<'a> {
     pub remaining: usize,
 }
 
-impl<'a> PageView<'a> {
-    pub fn records(self) -> Records<'a>
-        ensures { (result.payload ≡ self.entry.payload) × (result.remaining ≡ self.entry.count) }
-    {
-        Records {
-            payload: self.payload,
-            remaining: self.count,
-        }
+// The records one after the other, each as its key and its value; none follows a broken one.
+impl<'a> Iterator for Records<'a> {
+    type Item = (&'a [u8], &'a [u8]);
+
+    ghost next_gives = { λ s r t. Stepped s (next_record s.payload.now s.remaining) r t };
+
+    ghost remaining = { λ s. at_most s.remaining };
+
+    #[tactic(auto, unfolding(lookup::specs::Floor::next_record))]
+    fn next(&mut self) -> Option<(&'a [u8], &'a [u8])> {
+        let s = lookup::next_record(self.payload, self.remaining)?;
+        let key = octets::span(self.payload, s.key_start, s.key_end);
+        let value = octets::span(self.payload, s.key_end, s.value_end);
+        self.payload = octets::tail(self.payload, s.value_end);
+        self.remaining = s.remaining;
+        Some((key, value))
+    }
+
+    // As many as are left, or fewer where one is broken.
+    fn size_hint(&self) -> (usize, Option<usize>) {
+        (self.remaining, Some(self.remaining))
     }
 }
 
-// A record that was read, if there was one, and the records that are left.
-#[derive(Clone, Copy)]
-pub struct Next<'a> {
-    pub found: bool,
-    pub key: &'a [u8],
-    pub value: &'a [u8],
-    pub payload: &'a [u8],
-    pub remaining: usize,
-}
-
-impl<'a> Records<'a> {
-    pub fn next(self) -> Next<'a>
-        ensures { Stepped self.entry.payload (next_record self.entry.payload.now self.entry.remaining) result }
-    {
-        let s = lookup::next_record(self.payload, self.remaining);
-        Next {
-            found: s.found,
-            key: octets::span(self.payload, s.key_start, s.key_end),
-            value: octets::span(self.payload, s.key_end, s.value_end),
-            payload: octets::tail(self.payload, s.value_end),
-            remaining: s.remaining,
-        }
+impl ExactSizeIterator for Records<'_> {
+    fn len(&self) -> usize {
+        self.remaining
     }
 }

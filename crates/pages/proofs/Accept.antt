@@ -1,5 +1,5 @@
 -- A page is accepted exactly when each of its rules holds.
-use mathlib.Core.Path.{◌≡◌, refl, sym, ap, ◌∙◌}
+use mathlib.Core.Path.{◌≡◌, refl}
 use mathlib.Core.Bool.{Bool, true, false, not, ◌&&◌, ◌||◌}
 use mathlib.Core.List.{List}
 use Prim.Native.Nat.{ℕ}
@@ -8,10 +8,9 @@ use borrow.Author.Tests.{le-leb, leb-true, eq-eqb, ne_eqb, eqb-true}
 use lib.Dec.{leb, eqb}
 use lib.ListN.{length}
 use Rattle.error.specs.declared.Validation.TheVariants.{Input}
-use Rattle.error.specs.declared.Check.{Check}
-use Rattle.error.specs.declared.Check.TheVariants.{Passed, Refused}
-use Rattle.error.specs.Answer.{number_check, number_of}
-use Rattle.error.proofs.Exactly.{all_hold, all_pass, passed_is, passed_test, by, outcome_by, class_some}
+use Rattle.std.specs.Prelude.{Option, Ok}
+use Rattle.error.specs.Answer.{number_of}
+use Rattle.error.proofs.Exactly.{all_hold, all_pass, passed_is, passed_test, number_passed, number_test, given_exactly}
 use Rattle.error.proofs.Tests.{one_of, is_one_of_lem, and_left, and_right, and_both, not_yes}
 use Rattle.octets.specs.Bytes.{byte_at, part, all_zero}
 use Rattle.octets.specs.Number.{u16_at, u32_at}
@@ -20,10 +19,8 @@ use Rattle.crc.specs.Crc.{crc32c_with_zero}
 use Rattle.volume.specs.declared.TreeRef.{TreeRef}
 use Rattle.volume.specs.declared.TreeKind.{TreeKind}
 use Rattle.volume.specs.References.{tree_kind_value, validate_blocks, validate_page_ref, validate_uuid}
-use Rattle.page.specs.declared.Expected.{Expected}
-use Rattle.page.specs.declared.Page.{Page}
 use Rattle.page.specs.Header.{magic, page_kind, tree_kind, level, self_block, generation, count, payload_length, total, caller_demands, check_caller, checksum_fits, format_demands, check_format, is_page_kind, is_tree_kind, level_fits, reserved_zero, is_of_tree, kind_demands, check_kind, is_referred, has_uuid, identity_demands, check_identity, header_demands, validate_page_header}
-use Rattle.page.specs.Page.{validate_page_records, total_fits, padding_zero, enough_children, content_demands, check_content, page_demands, check_page, refused_page, accepted_page, decode_page}
+use Rattle.page.specs.Page.{validate_page_records, total_fits, padding_zero, enough_children, content_demands, check_content, page_demands, check_page, accepted_page, decode_page}
 use Rattle.pages.specs.Accept.{CallerHolds, HeaderHolds, ContentHolds, PageHolds, PageExactly}
 
 -- ---- tests that ask only under a condition
@@ -41,8 +38,8 @@ unasked n m b h = go (eqb n m) refl
 
 -- ---- from the chain to the rules
 
-module _ (reference : TreeRef) (uuid : List ℕ) (kind : TreeKind) (parent : ℕ) (expected : Expected) (blocks : ℕ) (page : List ℕ) where
-  caller_holds : check_caller reference uuid kind parent expected blocks page ≡ Passed → CallerHolds reference uuid kind parent expected blocks page
+module _ (reference : TreeRef) (uuid : List ℕ) (kind : TreeKind) (parent : ℕ) (expected : Option ℕ) (blocks : ℕ) (page : List ℕ) where
+  caller_holds : check_caller reference uuid kind parent expected blocks page ≡ Ok tt → CallerHolds reference uuid kind parent expected blocks page
   unfolding check_caller
   caller_holds e =
       let h = all_hold (caller_demands reference uuid kind parent expected blocks page) e in
@@ -60,17 +57,17 @@ module _ (reference : TreeRef) (uuid : List ℕ) (kind : TreeKind) (parent : ℕ
       given : not (eqb parent 0) ≡ true → parent ≡ 0 → ⊥
       given t z = let n : false ≡ true = rw (eq-eqb parent 0 z) at t in let k : ◌≡◌ {A = ℕ} 0 1 = cc in omega arith
 
-  caller_passes : CallerHolds reference uuid kind parent expected blocks page → check_caller reference uuid kind parent expected blocks page ≡ Passed
+  caller_passes : CallerHolds reference uuid kind parent expected blocks page → check_caller reference uuid kind parent expected blocks page ≡ Ok tt
   unfolding check_caller
   caller_passes h =
       all_pass (caller_demands reference uuid kind parent expected blocks page) (
         eq-eqb (length page) 4096 h.size,
         (
-          passed_test (validate_blocks blocks Input) h.range,
+          passed_test (validate_blocks blocks Input) tt h.range,
           (
-            passed_test (validate_page_ref reference kind blocks Input) h.place,
+            passed_test (validate_page_ref reference kind blocks Input) tt h.place,
             (
-              passed_test (validate_uuid uuid Input) h.volume,
+              passed_test (validate_uuid uuid Input) tt h.volume,
               (
                 and_both (not (eqb parent 0)) (leb reference.generation parent) (not_yes (eqb parent 0) (ne_eqb parent 0 h.parent_given)) (le-leb reference.generation parent h.not_newer),
                 (h.level_known, tt),
@@ -80,7 +77,7 @@ module _ (reference : TreeRef) (uuid : List ℕ) (kind : TreeKind) (parent : ℕ
         ),
       )
 
-  header_holds : check_format page ≡ Passed → check_kind kind expected page ≡ Passed → check_identity reference uuid kind parent blocks page ≡ Passed → HeaderHolds reference uuid kind parent expected blocks page
+  header_holds : check_format page ≡ Ok tt → check_kind kind expected page ≡ Ok tt → check_identity reference uuid kind parent blocks page ≡ Ok tt → HeaderHolds reference uuid kind parent expected blocks page
   unfolding check_format check_kind check_identity checksum_fits is_page_kind level_fits reserved_zero is_of_tree is_referred has_uuid
   header_holds fe ke ie =
       let f = all_hold (format_demands page) fe in
@@ -118,7 +115,7 @@ module _ (reference : TreeRef) (uuid : List ℕ) (kind : TreeKind) (parent : ℕ
         total_allowed_in = i.1.1.1.1.0;
       }
 
-  format_passes : HeaderHolds reference uuid kind parent expected blocks page → check_format page ≡ Passed
+  format_passes : HeaderHolds reference uuid kind parent expected blocks page → check_format page ≡ Ok tt
   unfolding check_format checksum_fits
   format_passes h =
       all_pass (format_demands page) (
@@ -129,7 +126,7 @@ module _ (reference : TreeRef) (uuid : List ℕ) (kind : TreeKind) (parent : ℕ
         ),
       )
 
-  kind_passes : HeaderHolds reference uuid kind parent expected blocks page → check_kind kind expected page ≡ Passed
+  kind_passes : HeaderHolds reference uuid kind parent expected blocks page → check_kind kind expected page ≡ Ok tt
   unfolding check_kind is_page_kind is_tree_kind level_fits reserved_zero is_of_tree
   kind_passes h =
       all_pass (kind_demands kind expected page) (
@@ -157,7 +154,7 @@ module _ (reference : TreeRef) (uuid : List ℕ) (kind : TreeKind) (parent : ℕ
       numbered TreeKind.Cleanup e = rw e
       numbered TreeKind.Workspace e = rw e
 
-  identity_passes : HeaderHolds reference uuid kind parent expected blocks page → check_identity reference uuid kind parent blocks page ≡ Passed
+  identity_passes : HeaderHolds reference uuid kind parent expected blocks page → check_identity reference uuid kind parent blocks page ≡ Ok tt
   unfolding check_identity is_referred has_uuid
   identity_passes h =
       all_pass (identity_demands reference uuid kind parent blocks page) (
@@ -173,22 +170,22 @@ module _ (reference : TreeRef) (uuid : List ℕ) (kind : TreeKind) (parent : ℕ
         ),
       )
 
-  content_holds : check_content kind blocks page ≡ Passed → ContentHolds kind blocks page
+  content_holds : check_content kind blocks page ≡ Ok tt → ContentHolds kind blocks page
   unfolding check_content total_fits padding_zero enough_children
   content_holds e =
       let c = all_hold (content_demands kind blocks page) e in
       record {
-        records = passed_is (number_check (validate_page_records kind blocks page)) c.0;
+        records = number_passed (validate_page_records kind blocks page) c.0;
         leaf_total = λ p. eqb-true (total page) (number_of (validate_page_records kind blocks page)) (asked (page_kind page) 1 (eqb (total page) (number_of (validate_page_records kind blocks page))) c.1.0 p);
         padding = c.1.1.0;
         children = λ p. leb-true 2 (count page) (asked (page_kind page) 2 (leb 2 (count page)) c.1.1.1.0 p);
       }
 
-  content_passes : ContentHolds kind blocks page → check_content kind blocks page ≡ Passed
+  content_passes : ContentHolds kind blocks page → check_content kind blocks page ≡ Ok tt
   unfolding check_content total_fits padding_zero enough_children
   content_passes h =
       all_pass (content_demands kind blocks page) (
-        passed_test (number_check (validate_page_records kind blocks page)) h.records,
+        number_test (validate_page_records kind blocks page) h.records,
         (
           unasked (page_kind page) 1 (eqb (total page) (number_of (validate_page_records kind blocks page))) (λ p. eq-eqb (total page) (number_of (validate_page_records kind blocks page)) (h.leaf_total p)),
           (
@@ -198,7 +195,7 @@ module _ (reference : TreeRef) (uuid : List ℕ) (kind : TreeKind) (parent : ℕ
         ),
       )
 
-  pub page_holds : check_page reference uuid kind parent expected blocks page ≡ Passed → PageHolds reference uuid kind parent expected blocks page
+  pub page_holds : check_page reference uuid kind parent expected blocks page ≡ Ok tt → PageHolds reference uuid kind parent expected blocks page
   unfolding check_page validate_page_header
   page_holds e =
       let h = all_hold (page_demands reference uuid kind parent expected blocks page) e in
@@ -209,42 +206,30 @@ module _ (reference : TreeRef) (uuid : List ℕ) (kind : TreeKind) (parent : ℕ
         content = content_holds (passed_is (check_content kind blocks page) h.1.0);
       }
 
-  pub page_passes : PageHolds reference uuid kind parent expected blocks page → check_page reference uuid kind parent expected blocks page ≡ Passed
+  pub page_passes : PageHolds reference uuid kind parent expected blocks page → check_page reference uuid kind parent expected blocks page ≡ Ok tt
   unfolding check_page validate_page_header
   page_passes h =
       all_pass (page_demands reference uuid kind parent expected blocks page) (
-        passed_test (validate_page_header reference uuid kind parent expected blocks page)
+        passed_test (validate_page_header reference uuid kind parent expected blocks page) tt
             (all_pass (header_demands reference uuid kind parent expected blocks page) (
-              passed_test (check_caller reference uuid kind parent expected blocks page) (caller_passes h.caller),
+              passed_test (check_caller reference uuid kind parent expected blocks page) tt (caller_passes h.caller),
               (
-                passed_test (check_format page) (format_passes h.header),
+                passed_test (check_format page) tt (format_passes h.header),
                 (
-                  passed_test (check_kind kind expected page) (kind_passes h.header),
-                  (passed_test (check_identity reference uuid kind parent blocks page) (identity_passes h.header), tt),
+                  passed_test (check_kind kind expected page) tt (kind_passes h.header),
+                  (passed_test (check_identity reference uuid kind parent blocks page) tt (identity_passes h.header), tt),
                 ),
               ),
             )),
-        (passed_test (check_content kind blocks page) (content_passes h.content), tt),
+        (passed_test (check_content kind blocks page) tt (content_passes h.content), tt),
       )
 
--- class 0 is the answer of a page whose checks all pass, and of no other
-module _ (reference : TreeRef) (uuid : List ℕ) (kind : TreeKind) (parent : ℕ) (expected : Expected) (blocks : ℕ) (page : List ℕ) where
-  answered : decode_page reference uuid kind parent expected blocks page ≡ by (check_page reference uuid kind parent expected blocks page) refused_page (accepted_page page)
-  unfolding decode_page check_page
-  answered = outcome_by (page_demands reference uuid kind parent expected blocks page) refused_page (accepted_page page)
-
-  class_passed : (decode_page reference uuid kind parent expected blocks page).class ≡ 0 → check_page reference uuid kind parent expected blocks page ≡ Passed
-  class_passed e = go (check_page reference uuid kind parent expected blocks page) (ap (λ (p : Page). p.class) (sym answered) ∙ e)
-    where
-      go : (c : Check) → (by c refused_page (accepted_page page)).class ≡ 0 → c ≡ Passed
-      go Passed q = refl
-      go (Refused x) q = absurd (class_some x q)
-
-  passed_class : check_page reference uuid kind parent expected blocks page ≡ Passed → (decode_page reference uuid kind parent expected blocks page).class ≡ 0
-  passed_class e = ap (λ (p : Page). p.class) (answered ∙ ap (λ (c : Check). by c refused_page (accepted_page page)) e)
-
+-- a page is answered with what it states exactly where all its checks pass
 pub page_exactly : PageExactly
-page_exactly reference uuid kind parent expected blocks page = (
-  λ e. page_holds reference uuid kind parent expected blocks page (class_passed reference uuid kind parent expected blocks page e),
-  λ h. passed_class reference uuid kind parent expected blocks page (page_passes reference uuid kind parent expected blocks page h),
-)
+unfolding decode_page check_page
+page_exactly reference uuid kind parent expected blocks page answer =
+    let ds = page_demands reference uuid kind parent expected blocks page in
+    let given = given_exactly ds (accepted_page page) answer in (
+      λ e. (page_holds reference uuid kind parent expected blocks page (all_pass ds (given.0 e).0), (given.0 e).1),
+      λ h. given.1 (all_hold ds (page_passes reference uuid kind parent expected blocks page h.0), h.1),
+    )

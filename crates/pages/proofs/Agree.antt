@@ -5,10 +5,10 @@ use Prim.Native.Nat.{ℕ, ◌+◌, ◌-◌, ◌≤◌}
 use native.Mathlib.Omega.{arith}
 use lib.ListN.{length, drop}
 use denote.Ref.{Bor}
-use Rattle.error.specs.declared.Check.TheVariants.{Passed}
-use Rattle.error.specs.declared.Number.{Number}
-use Rattle.error.specs.Answer.{number_check, number_of}
-use Rattle.error.proofs.Exactly.{outcome_passed}
+use Rattle.std.specs.Prelude.{Option, Some, None, Result, Ok, Err}
+use Rattle.error.specs.declared.Error.{Error}
+use Rattle.error.specs.Answer.{Number, number_check, number_of}
+use Rattle.error.proofs.Exactly.{all_hold, outcome_holds}
 use Rattle.octets.specs.Bytes.{part, Bytes}
 use Rattle.volume.specs.declared.TreeRef.{TreeRef}
 use Rattle.volume.specs.declared.TreeKind.{TreeKind}
@@ -16,37 +16,36 @@ use Rattle.walk.specs.Entries.{Read}
 use Rattle.walk.specs.Records.{is_leaf, own_rules, validate_records}
 use Rattle.lookup.specs.Floor.{floor_at, answer_of, next_record}
 use Rattle.lookup.specs.declared.Floor.{Floor}
-use Rattle.lookup.specs.declared.Floor.TheVariants.{At, Nothing}
 use Rattle.lookup.specs.declared.Step.{Step}
-use Rattle.walk.specs.Found.{Finding, first_of, step_found, lookup_in}
+use Rattle.walk.specs.Found.{Finding, first_of, step_found, answer_found, lookup_in}
 use Rattle.octets.proofs.Join.{part_length}
 use Rattle.octets.proofs.Digits.{bytes_drop}
 use Rattle.octets.proofs.Parts.{part_from}
 use Rattle.walk.proofs.Walked.{walk_reads}
 use Rattle.walk.proofs.Found.{scratch_free, runs_agree}
-use Rattle.page.specs.declared.Expected.{Expected}
 use Rattle.page.specs.declared.Page.{Page}
 use Rattle.page.specs.declared.view.PageView.{PageView}
+use Rattle.page.specs.declared.view.Records.{Records}
 use Rattle.page.specs.Header.{level, total, count, payload_length}
-use Rattle.page.specs.Page.{context, validate_page_records, page_demands, check_page, refused_page, accepted_page, decode_page}
-use Rattle.page.specs.View.{Views}
-use Rattle.pages.specs.Agree.{lookup, Accepted, Same, PagesAgree, handed_out, LookupIsHandedOut}
+use Rattle.page.specs.Page.{context, validate_page_records, page_demands, check_page, accepted_page, decode_page}
+use Rattle.page.specs.View.{IsView, Views, Found, Stepped}
+use Rattle.pages.specs.Agree.{lookup, Accepted, Same, PagesAgree, handed_out, GivenFirst, LookupIsHandedOut}
 use Rattle.pages.proofs.Accept.{page_holds}
 use Rattle.pages.proofs.Fields.{Good, page_same}
 
-value_is : (r : Number) → number_check r ≡ Passed → r ≡ Number.Value (number_of r)
-value_is (Number.Value n) e = refl
-value_is (Number.Refused x) e = cc
+value_is : (r : Number) → number_check r ≡ Ok tt → r ≡ Ok (number_of r)
+value_is (Ok n) e = refl
+value_is (Err x) e = cc
 
 -- the records of a page whose walk passes
-read_of : (kind : TreeKind) (blocks : ℕ) (page : List ℕ) → Bytes page → number_check (validate_page_records kind blocks page) ≡ Passed → Read (part page 80 (payload_length page)) (count page)
+read_of : (kind : TreeKind) (blocks : ℕ) (page : List ℕ) → Bytes page → number_check (validate_page_records kind blocks page) ≡ Ok tt → Read (part page 80 (payload_length page)) (count page)
 unfolding validate_page_records validate_records
 read_of kind blocks page bytes e =
     let c = context kind blocks page in
     (walk_reads (is_leaf c) c.mode (own_rules c) (drop 80 page) (payload_length page) (count page) (number_of (validate_page_records kind blocks page))
     (bytes_drop page 80 bytes) (value_is (validate_page_records kind blocks page) e)).read
 
-good : (reference : TreeRef) (uuid : List ℕ) (kind : TreeKind) (parent : ℕ) (expected : Expected) (blocks : ℕ) (page : List ℕ) → Accepted reference uuid kind parent expected blocks page → Good reference uuid kind page
+good : (reference : TreeRef) (uuid : List ℕ) (kind : TreeKind) (parent : ℕ) (expected : Option ℕ) (blocks : ℕ) (page : List ℕ) → Accepted reference uuid kind parent expected blocks page → Good reference uuid kind page
 good reference uuid kind parent expected blocks page a =
     let holds = page_holds reference uuid kind parent expected blocks page a.passed in
     record {
@@ -66,13 +65,13 @@ record Seen (page : List ℕ) (v : PageView) : Type 0 where
   payload_is : v.payload.now ≡ part page 80 (payload_length page)
 
 -- the view that `decode_page` returns on an accepted page
-seen : (reference : TreeRef) (uuid : List ℕ) (kind : TreeKind) (parent : ℕ) (expected : Expected) (blocks : ℕ) (page : Bor (List ℕ)) (v : PageView)
-    → Accepted reference uuid kind parent expected blocks page.now → Views page (decode_page reference uuid kind parent expected blocks page.now) v → Seen page.now v
+seen : (reference : TreeRef) (uuid : List ℕ) (kind : TreeKind) (parent : ℕ) (expected : Option ℕ) (blocks : ℕ) (page : Bor (List ℕ)) (v : PageView)
+    → Accepted reference uuid kind parent expected blocks page.now → Views page (decode_page reference uuid kind parent expected blocks page.now) (Ok v) → Seen page.now v
 unfolding decode_page check_page
 seen reference uuid kind parent expected blocks page v a views =
-    let answer : accepted_page page.now ≡ decode_page reference uuid kind parent expected blocks page.now
-    = outcome_passed (page_demands reference uuid kind parent expected blocks page.now) refused_page (accepted_page page.now) (accepted_page page.now) (check_page reference uuid kind parent expected blocks page.now) refl a.passed refl in
-    let w : Views page (accepted_page page.now) v = subst (λ (x : Page). Views page x v) (sym answer) views in
+    let ds = page_demands reference uuid kind parent expected blocks page.now in
+    let answered : decode_page reference uuid kind parent expected blocks page.now ≡ Ok (accepted_page page.now) = outcome_holds ds (Ok (accepted_page page.now)) (all_hold ds a.passed) in
+    let w : IsView page (accepted_page page.now) v = subst (λ (x : Result Page Error). Views page x (Ok v)) answered views in
     let width : 80 + payload_length page.now - 80 ≡ payload_length page.now = omega arith in
     record {
       level_is = w.level;
@@ -120,17 +119,21 @@ pages_agree reference uuid kind parent₁ parent₂ expected₁ expected₂ bloc
     let b = seen reference uuid kind parent₂ expected₂ blocks₂ page₂ v₂ a₂ views₂ in
     (forth reference uuid kind page₁.now page₂.now v₁ v₂ g h a b scratch₁ scratch₂, back reference uuid kind page₁.now page₂.now v₁ v₂ g h a b scratch₁ scratch₂)
 
--- the first record of those that a lookup answers stands at the front of the part that it hands out; where there is none, that part isn't looked at
-first_handed : (payload : List ℕ) (count : ℕ) (f : Floor) → let a = answer_of (length payload) count f in first_of (drop a.from payload) a.remaining ≡ first_of (part payload a.from (a.end - a.from)) a.remaining
-unfolding next_record
-first_handed payload count (At i o) = ap (λ (s : List ℕ). first_of s (count - i)) (sym (part_from payload o))
-first_handed payload count Nothing = refl
+-- what `next` hands out is the record at its step
+given_by : (r : Records) (x : Option Step) (next : Option (Bor (List ℕ) × Bor (List ℕ))) (after : Records) → Stepped r x next after → step_found r.payload.now x ≡ handed_out next
+given_by r (Some s) (Some p) after st = rw (st.key_is.bytes, st.value_is.bytes) refl
+given_by r (Some s) None after st = absurd st
+given_by r None (Some p) after st = absurd st
+given_by r None None after st = refl
+
+-- the first record of those that a lookup answers stands at the front of the part that it hands out
+given_first : (payload : Bor (List ℕ)) (count : ℕ) (o : Option Floor) (floor : Option (ℕ × Records)) (next : Option (Bor (List ℕ) × Bor (List ℕ))) (after : Records)
+    → Found payload (answer_of (length payload.now) count o) floor → GivenFirst floor next after → answer_found payload.now (answer_of (length payload.now) count o) ≡ handed_out next
+given_first payload count (Some a) (Some r) next after f g =
+    ap₂ first_of (sym (f.from.bytes ∙ part_from payload.now a.offset)) (sym f.remaining) ∙ given_by r.1 (next_record r.1.payload.now r.1.remaining) next after g
+given_first payload count (Some a) None next after f g = absurd f
+given_first payload count None (Some r) next after f g = absurd f
+given_first payload count None None next after f g = ap handed_out (sym g)
 
 pub lookup_is_handed_out : LookupIsHandedOut
-lookup_is_handed_out view key scratch floor next f n =
-    let payload : List ℕ = view.payload.now in
-    let rest : List ℕ = floor.payload.now in
-    let s : Step = next_record rest floor.remaining in
-    let first : lookup view key scratch ≡ step_found rest s = first_handed payload view.count (floor_at payload view.count key (length scratch)) ∙ ap₂ first_of (sym f.from.bytes) (sym f.remaining) in
-    let handed : handed_out next ≡ step_found rest s = rw (n.found, n.key.bytes, n.value.bytes) refl in
-    first ∙ sym handed
+lookup_is_handed_out view key scratch floor next after f g = given_first view.payload view.count (floor_at view.payload.now view.count key (length scratch)) floor next after f g

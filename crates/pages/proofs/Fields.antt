@@ -9,6 +9,7 @@ use borrow.Author.Tests.{ne_eqb, eq-eqb}
 use lib.Dec.{eqb}
 use lib.ListN.{length, take, drop, replicate, length-drop, take-append-drop}
 use lib.Seq.{drop-drop, ext_get_or}
+use Rattle.std.specs.Prelude.{Option}
 use Rattle.octets.proofs.Parts.{grow}
 use Rattle.octets.specs.Bytes.{byte_at, part, all_zero, Bytes}
 use Rattle.octets.specs.Number.{field}
@@ -20,7 +21,6 @@ use Rattle.crc.proofs.Parts.{parts, zeroed_parts}
 use Rattle.volume.specs.declared.TreeRef.{TreeRef}
 use Rattle.volume.specs.declared.TreeKind.{TreeKind}
 use Rattle.walk.specs.Entries.{Read}
-use Rattle.page.specs.declared.Expected.{Expected}
 use Rattle.page.specs.Header.{page_kind, level, total, count, payload_length}
 use Rattle.pages.specs.Accept.{PageHolds}
 
@@ -41,7 +41,7 @@ zeroed_page p e = zeroed_parts 64 68 p ∙ ap (λ (n : ℕ). parts (min 64 (min 
 pub record Good (reference : TreeRef) (uuid : List ℕ) (kind : TreeKind) (page : List ℕ) : Type 0 where
   pub bytes : Bytes page
   pub parent : ℕ
-  pub expected : Expected
+  pub expected : Option ℕ
   pub blocks : ℕ
   pub holds : PageHolds reference uuid kind parent expected blocks page
   pub reads : Read (part page 80 (payload_length page)) (count page)

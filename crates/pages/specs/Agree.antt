@@ -1,17 +1,14 @@
 -- Demand 3 for pages (01, "What demand 3 compares"): two accepted pages agree in all 4,096 bytes exactly when level, total and all lookups on the returned
 -- views agree.
-use Rattle.std.specs.Prelude.{ℕ, ◌≡◌, ◌↔◌, cond, List, length}
+use Rattle.std.specs.Prelude.{ℕ, ◌≡◌, ◌↔◌, List, length, Option, Some, None, Ok}
 use Rattle.std.specs.Borrow.{Bor}
-use Rattle.error.specs.declared.Check.TheVariants.{Passed}
 use Rattle.octets.specs.Bytes.{Bytes}
 use Rattle.lookup.specs.Floor.{floor_answer, next_record}
 use Rattle.walk.specs.Found.{Finding, found, nothing, lookup_in}
 use Rattle.volume.specs.declared.TreeRef.{TreeRef}
 use Rattle.volume.specs.declared.TreeKind.{TreeKind}
-use Rattle.page.specs.declared.Expected.{Expected}
 use Rattle.page.specs.declared.view.PageView.{PageView}
-use Rattle.page.specs.declared.view.FloorRecord.{FloorRecord}
-use Rattle.page.specs.declared.view.Next.{Next}
+use Rattle.page.specs.declared.view.Records.{Records}
 use Rattle.page.specs.Page.{check_page, decode_page}
 use Rattle.page.specs.View.{Views, Found, Stepped}
 
@@ -20,9 +17,9 @@ abbrev pub lookup : PageView → List ℕ → List ℕ → Finding
 lookup view key scratch = lookup_in view.payload.now view.count key scratch
 
 -- the definition of `decode_page` accepts the bytes with the call's arguments
-pub record Accepted (reference : TreeRef) (uuid : List ℕ) (kind : TreeKind) (parent : ℕ) (expected : Expected) (blocks : ℕ) (page : List ℕ) : Type 0 where
+pub record Accepted (reference : TreeRef) (uuid : List ℕ) (kind : TreeKind) (parent : ℕ) (expected : Option ℕ) (blocks : ℕ) (page : List ℕ) : Type 0 where
   pub bytes : Bytes page
-  pub passed : check_page reference uuid kind parent expected blocks page ≡ Passed
+  pub passed : check_page reference uuid kind parent expected blocks page ≡ Ok tt
 
 -- two views agree: level, total, and for every sought byte string the lookup finds the same record in both, or none in either; the scratch is chosen anew
 -- for each view and each key
@@ -36,19 +33,25 @@ pub record Same (v w : PageView) (scratch₁ scratch₂ : List ℕ → List ℕ)
 abbrev pub PagesAgree : Type 0
 PagesAgree =
     (reference : TreeRef) (uuid : List ℕ) (kind : TreeKind)
-    (parent₁ parent₂ : ℕ) (expected₁ expected₂ : Expected) (blocks₁ blocks₂ : ℕ) (page₁ page₂ : Bor (List ℕ)) (v₁ v₂ : PageView)
-    → Accepted reference uuid kind parent₁ expected₁ blocks₁ page₁.now → Views page₁ (decode_page reference uuid kind parent₁ expected₁ blocks₁ page₁.now) v₁
-    → Accepted reference uuid kind parent₂ expected₂ blocks₂ page₂.now → Views page₂ (decode_page reference uuid kind parent₂ expected₂ blocks₂ page₂.now) v₂
+    (parent₁ parent₂ : ℕ) (expected₁ expected₂ : Option ℕ) (blocks₁ blocks₂ : ℕ) (page₁ page₂ : Bor (List ℕ)) (v₁ v₂ : PageView)
+    → Accepted reference uuid kind parent₁ expected₁ blocks₁ page₁.now → Views page₁ (decode_page reference uuid kind parent₁ expected₁ blocks₁ page₁.now) (Ok v₁)
+    → Accepted reference uuid kind parent₂ expected₂ blocks₂ page₂.now → Views page₂ (decode_page reference uuid kind parent₂ expected₂ blocks₂ page₂.now) (Ok v₂)
     → (scratch₁ scratch₂ : List ℕ → List ℕ) → (page₁.now ≡ page₂.now) ↔ Same v₁ v₂ scratch₁ scratch₂
 
 -- the record that `next` hands out, or nothing
-abbrev pub handed_out : Next → Finding
-handed_out next = cond next.found (found next.key.now next.value.now) nothing
+abbrev pub handed_out : Option (Bor (List ℕ) × Bor (List ℕ)) → Finding
+handed_out (Some r) = found r.0.now r.1.now
+handed_out None = nothing
+
+-- what `next` gives first of the records of a floor record; without one there is nothing to give
+abbrev pub GivenFirst : Option (ℕ × Records) → Option (Bor (List ℕ) × Bor (List ℕ)) → Records → Type 0
+GivenFirst (Some f) next after = Stepped f.1 (next_record f.1.payload.now f.1.remaining) next after
+GivenFirst None next after = next ≡ None
 
 -- what demand 3 compares is what the calls hand out: the lookup of a key finds the record that `next` gives first of those that `floor_record` answers
 abbrev pub LookupIsHandedOut : Type 0
 LookupIsHandedOut =
-    (view : PageView) (key scratch : List ℕ) (floor : FloorRecord) (next : Next)
+    (view : PageView) (key scratch : List ℕ) (floor : Option (ℕ × Records)) (next : Option (Bor (List ℕ) × Bor (List ℕ))) (after : Records)
     → Found view.payload (floor_answer view.payload.now view.count key (length scratch)) floor
-    → Stepped floor.payload (next_record floor.payload.now floor.remaining) next
+    → GivenFirst floor next after
     → lookup view key scratch ≡ handed_out next

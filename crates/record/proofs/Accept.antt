@@ -7,10 +7,9 @@ use mathlib.Core.List.{List, ◌++◌}
 use native.Mathlib.Omega.{arith}
 use Rattle.error.specs.declared.Validation.{Validation}
 use Rattle.error.specs.declared.Validation.TheVariants.{Input}
-use Rattle.error.specs.declared.Check.TheVariants.{Passed}
-use Rattle.error.specs.declared.Number.{Number}
+use Rattle.std.specs.Prelude.{Ok}
 use Rattle.error.specs.Demand.{AllHold}
-use Rattle.error.proofs.Exactly.{accepted_exactly, number_exactly, two_chains}
+use Rattle.error.proofs.Exactly.{accepted_exactly, given_exactly, two_chains}
 use Rattle.octets.specs.Below.{every}
 use Rattle.octets.proofs.Below.{every_at, every_all}
 use Rattle.volume.specs.declared.TreeKind.{TreeKind}
@@ -21,7 +20,7 @@ use Rattle.record.specs.Leaf.{leaf_demands, leaf_blocks, validate_leaf_record, r
 use Rattle.record.specs.Accept.{RecordsExactly}
 use Rattle.record.proofs.Children.{child_exactly}
 
-allocation_accepted : (key value : List ℕ) (blocks : ℕ) (mode : Validation) → (validate_allocation_group key value blocks mode ≡ Passed) ↔ AllHold (allocation_group_demands key value blocks mode)
+allocation_accepted : (key value : List ℕ) (blocks : ℕ) (mode : Validation) → (validate_allocation_group key value blocks mode ≡ Ok tt) ↔ AllHold (allocation_group_demands key value blocks mode)
 unfolding validate_allocation_group
 allocation_accepted key value blocks mode = accepted_exactly (allocation_group_demands key value blocks mode)
 
@@ -37,39 +36,39 @@ taken_exactly value start end = (there, back)
     back : ((block : ℕ) → start ≤ block → block < end → block_taken value block ≡ true) → every (λ (i : ℕ). block_taken value (start + i)) (end - start) ≡ true
     back h = every_all (λ (i : ℕ). block_taken value (start + i)) (end - start) (λ i l. h (start + i) (omega arith) (omega arith))
 
-retirement_accepted : (key value : List ℕ) (blocks page_generation : ℕ) (mode : Validation) → (validate_retirement key value blocks page_generation mode ≡ Passed) ↔ AllHold (retirement_demands key value blocks page_generation mode)
+retirement_accepted : (key value : List ℕ) (blocks page_generation : ℕ) (mode : Validation) → (validate_retirement key value blocks page_generation mode ≡ Ok tt) ↔ AllHold (retirement_demands key value blocks page_generation mode)
 unfolding validate_retirement
 retirement_accepted key value blocks page_generation mode = accepted_exactly (retirement_demands key value blocks page_generation mode)
 
-detached_accepted : (key value : List ℕ) (blocks page_generation : ℕ) (mode : Validation) → (validate_detached_tree key value blocks page_generation mode ≡ Passed) ↔ AllHold (detached_tree_demands key value blocks page_generation mode)
+detached_accepted : (key value : List ℕ) (blocks page_generation : ℕ) (mode : Validation) → (validate_detached_tree key value blocks page_generation mode ≡ Ok tt) ↔ AllHold (detached_tree_demands key value blocks page_generation mode)
 unfolding validate_detached_tree
 detached_accepted key value blocks page_generation mode = accepted_exactly (detached_tree_demands key value blocks page_generation mode)
 
-orphan_accepted : (key value : List ℕ) (mode : Validation) → (validate_orphan_marker key value mode ≡ Passed) ↔ AllHold (orphan_marker_demands key value mode)
+orphan_accepted : (key value : List ℕ) (mode : Validation) → (validate_orphan_marker key value mode ≡ Ok tt) ↔ AllHold (orphan_marker_demands key value mode)
 unfolding validate_orphan_marker
 orphan_accepted key value mode = accepted_exactly (orphan_marker_demands key value mode)
 
-cleanup_accepted : (key value : List ℕ) (blocks page_generation : ℕ) (mode : Validation) → (validate_cleanup_key_value key value blocks page_generation mode ≡ Passed) ↔ AllHold (cleanup_demands key value blocks page_generation mode)
+cleanup_accepted : (key value : List ℕ) (blocks page_generation : ℕ) (mode : Validation) → (validate_cleanup_key_value key value blocks page_generation mode ≡ Ok tt) ↔ AllHold (cleanup_demands key value blocks page_generation mode)
 unfolding validate_cleanup_key_value
 cleanup_accepted key value blocks page_generation mode = accepted_exactly (cleanup_demands key value blocks page_generation mode)
 
-workspace_key_accepted : (key : List ℕ) (blocks : ℕ) (mode : Validation) → (validate_workspace_key key blocks mode ≡ Passed) ↔ AllHold (workspace_key_demands key blocks mode)
+workspace_key_accepted : (key : List ℕ) (blocks : ℕ) (mode : Validation) → (validate_workspace_key key blocks mode ≡ Ok tt) ↔ AllHold (workspace_key_demands key blocks mode)
 unfolding validate_workspace_key
 workspace_key_accepted key blocks mode = accepted_exactly (workspace_key_demands key blocks mode)
 
-workspace_run_accepted : (key value : List ℕ) (blocks : ℕ) (mode : Validation) → (validate_workspace_run key value blocks mode ≡ Passed) ↔ AllHold (workspace_run_demands key value blocks mode)
+workspace_run_accepted : (key value : List ℕ) (blocks : ℕ) (mode : Validation) → (validate_workspace_run key value blocks mode ≡ Ok tt) ↔ AllHold (workspace_run_demands key value blocks mode)
 unfolding validate_workspace_run
 workspace_run_accepted key value blocks mode = accepted_exactly (workspace_run_demands key value blocks mode)
 
-leaf_accepted : (kind : TreeKind) (key value : List ℕ) (blocks page_generation : ℕ) (mode : Validation) (n : ℕ) → (validate_leaf_record kind key value blocks page_generation mode ≡ Number.Value n) ↔ (AllHold (leaf_demands kind key value blocks page_generation mode) × (n ≡ leaf_blocks kind key value))
+leaf_accepted : (kind : TreeKind) (key value : List ℕ) (blocks page_generation : ℕ) (mode : Validation) (n : ℕ) → (validate_leaf_record kind key value blocks page_generation mode ≡ Ok n) ↔ (AllHold (leaf_demands kind key value blocks page_generation mode) × (n ≡ leaf_blocks kind key value))
 unfolding validate_leaf_record
-leaf_accepted kind key value blocks page_generation mode n = number_exactly (leaf_demands kind key value blocks page_generation mode) (leaf_blocks kind key value) n
+leaf_accepted kind key value blocks page_generation mode n = given_exactly (leaf_demands kind key value blocks page_generation mode) (leaf_blocks kind key value) n
 
-blocks_accepted : (kind : TreeKind) (key value : List ℕ) (blocks generation n : ℕ) → (leaf_record_blocks kind key value blocks generation ≡ Number.Value n) ↔ (AllHold (record_size_demands key value ++ leaf_demands kind key value blocks generation Input) × (n ≡ leaf_blocks kind key value))
+blocks_accepted : (kind : TreeKind) (key value : List ℕ) (blocks generation n : ℕ) → (leaf_record_blocks kind key value blocks generation ≡ Ok n) ↔ (AllHold (record_size_demands key value ++ leaf_demands kind key value blocks generation Input) × (n ≡ leaf_blocks kind key value))
 unfolding leaf_record_blocks validate_leaf_record
 blocks_accepted kind key value blocks generation n =
-    rw (two_chains (record_size_demands key value) (leaf_demands kind key value blocks generation Input) Number.Refused (Number.Value (leaf_blocks kind key value)))
-    (number_exactly (record_size_demands key value ++ leaf_demands kind key value blocks generation Input) (leaf_blocks kind key value) n)
+    rw (two_chains (record_size_demands key value) (leaf_demands kind key value blocks generation Input) (Ok (leaf_blocks kind key value)))
+    (given_exactly (record_size_demands key value ++ leaf_demands kind key value blocks generation Input) (leaf_blocks kind key value) n)
 
 pub records_exactly : RecordsExactly
 records_exactly = record {

@@ -3,37 +3,29 @@ use Prim.Native.Nat.{ℕ}
 use mathlib.Core.Path.{◌≡◌, ap}
 use mathlib.Core.Logic.{◌↔◌}
 use mathlib.Core.List.{List}
-use native.Mathlib.Omega.{arith}
 use borrow.Author.Tests.{eqb-true}
 use lib.ListN.{length}
-use Rattle.error.specs.declared.Error.{Error}
+use Rattle.std.specs.Prelude.{Ok}
 use Rattle.error.specs.declared.Validation.{Validation}
 use Rattle.error.specs.Demand.{AllHold}
 use Rattle.octets.specs.Number.{u64_at}
 use Rattle.volume.specs.declared.TreeRef.{TreeRef}
 use Rattle.volume.specs.declared.TreeKind.{TreeKind}
 use Rattle.error.proofs.Exactly.{given_exactly}
-use Rattle.record.specs.declared.Child.{Child}
 use Rattle.record.specs.Internal.{child_ref, internal_demands, validate_internal_record}
 
-child_apart : (e : Error) (w : TreeRef) → Child.Refused e ≡ Child.Reference w → ⊥
-child_apart e w p = let z : ◌≡◌ {A = ℕ} 0 1 = cc in omega arith
-
-child_inside : (v w : TreeRef) → Child.Reference v ≡ Child.Reference w → w ≡ v
-child_inside v w p = cc
-
 module _ (kind : TreeKind) (key value : List ℕ) (blocks page_generation : ℕ) (mode : Validation) (reference : TreeRef) where
-  pub child_exactly : (validate_internal_record kind key value blocks page_generation mode ≡ Child.Reference reference) ↔ (AllHold (internal_demands kind key value blocks page_generation mode) × (reference ≡ child_ref value))
+  pub child_exactly : (validate_internal_record kind key value blocks page_generation mode ≡ Ok reference) ↔ (AllHold (internal_demands kind key value blocks page_generation mode) × (reference ≡ child_ref value))
   unfolding validate_internal_record
-  child_exactly = given_exactly Child.Refused Child.Reference child_apart child_inside (internal_demands kind key value blocks page_generation mode) (child_ref value) reference
+  child_exactly = given_exactly (internal_demands kind key value blocks page_generation mode) (child_ref value) reference
 
   -- its value has 16 bytes
-  pub child_sixteen : validate_internal_record kind key value blocks page_generation mode ≡ Child.Reference reference → length value ≡ 16
+  pub child_sixteen : validate_internal_record kind key value blocks page_generation mode ≡ Ok reference → length value ≡ 16
   child_sixteen p = let h = child_exactly.0 p in eqb-true (length value) 16 h.0.1.0
 
   -- it gives the reference that stands there
-  pub child_is : validate_internal_record kind key value blocks page_generation mode ≡ Child.Reference reference → reference ≡ child_ref value
+  pub child_is : validate_internal_record kind key value blocks page_generation mode ≡ Ok reference → reference ≡ child_ref value
   child_is p = (child_exactly.0 p).1
 
-  pub child_block_lem : validate_internal_record kind key value blocks page_generation mode ≡ Child.Reference reference → reference.block ≡ u64_at value 0
+  pub child_block_lem : validate_internal_record kind key value blocks page_generation mode ≡ Ok reference → reference.block ≡ u64_at value 0
   child_block_lem p = ap (λ (r : TreeRef). r.block) (child_is p)

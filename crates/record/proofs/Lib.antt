@@ -1,6 +1,5 @@
 pub mod Taken
-pub mod Fields
-pub mod ByKind
+pub mod Answered
 pub mod Children
 pub mod Accept
 pub mod Cases

@@ -83,3 +83,6 @@ module _ (value : List ℕ) (start end block : ℕ) (w : TakenTo value start blo
 
   pub byte_less : (r : Bool) → r ≡ true → r ≡ full_byte value block (end - block) → block < end → end - (block + 8) < end - block
   byte_less r p e h = omega arith
+
+-- what the walk goes by, but for its last step over a byte and its end
+pub ruleset walk = (walk_starts, walk_bit, walk_stops, byte_fits, byte_less)

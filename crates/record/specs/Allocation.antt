@@ -1,8 +1,8 @@
 -- Allocation groups (01, section 5: field rules are the Rust's, here those of `validate_allocation_group`): a bitmap of 16,384 blocks, a taken block's bit set.
 use Rattle.std.specs.Prelude.{ℕ, ◌+◌, ◌-◌, ◌%◌, Bool, ◌&&◌, List, [], ◌∷◌, eqb, ltb, length}
 use Rattle.error.specs.declared.Validation.{Validation}
-use Rattle.error.specs.declared.Check.{Check}
-use Rattle.error.specs.Answer.{violation_of, number_check, number_of}
+use Rattle.error.specs.Answer.{Check}
+use Rattle.error.specs.Answer.{violation_of, number_of}
 use Rattle.error.specs.Demand.{Demand, ◌otherwise◌, passing, is_passed, demands}
 use Rattle.error.specs.Reason as reason
 use Rattle.octets.specs.Bytes.{bit_set}
@@ -14,7 +14,7 @@ use Rattle.volume.specs.Groups.{allocation_group_blocks, allocation_group_count,
 -- `validate_allocation_group`, READING-RULES 11: the number of a group is below the volume's count of groups; where the count passes 64 bits, the mode's refusal takes the place of its class 3; the caller names both reasons
 abbrev pub group_index_demands : ℕ → ℕ → ℕ → ℕ → Validation → List Demand
 group_index_demands group blocks uncounted outside mode =
-    is_passed (number_check (allocation_group_count blocks)) otherwise violation_of mode uncounted
+    is_passed (allocation_group_count blocks) otherwise violation_of mode uncounted
     ∷ ltb group (number_of (allocation_group_count blocks)) otherwise violation_of mode outside
     ∷ []
 

@@ -2,7 +2,6 @@
 use Rattle.std.specs.Prelude.{ℕ, ◌≡◌, Bool, true, not, List, [], ◌∷◌, ◌++◌, pos, neg_ℤ, replicate}
 use Rattle.error.specs.declared.Validation.TheVariants.{Disk}
 use Rattle.error.specs.Demand.{is_passed, all_true}
-use Rattle.error.specs.Answer.{number_check}
 use Rattle.catalog.specs.Times.{validate_timestamp_range}
 use Rattle.catalog.specs.Extent.{validate_extent}
 use Rattle.record.specs.Cleanup.{validate_cleanup_key_value}
@@ -23,8 +22,8 @@ orphan_key object = 3 ∷ (replicate 7 0 ++ (object ∷ []))
 unfoldable pub cases : List Bool
 cases =
     -- B = 1,025: extent at 512 of count 1 passes, count 2 doesn't
-    is_passed (number_check (validate_extent extent_key (extent_at512 1) 1025 Disk))
-    ∷ not (is_passed (number_check (validate_extent extent_key (extent_at512 2) 1025 Disk)))
+    is_passed (validate_extent extent_key (extent_at512 1) 1025 Disk)
+    ∷ not (is_passed (validate_extent extent_key (extent_at512 2) 1025 Disk))
     -- seconds -11644473600 pass, one less fails
     ∷ is_passed (validate_timestamp_range (neg_ℤ (pos 11644473600)) 0 Disk)
     ∷ not (is_passed (validate_timestamp_range (neg_ℤ (pos 11644473601)) 0 Disk))

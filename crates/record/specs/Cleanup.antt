@@ -1,8 +1,8 @@
 -- Records of the cleanup tree (01, section 5: field rules are the Rust's, here those of `validate_cleanup_key_value`): retired runs of blocks (1), detached trees (2), orphans (3).
 use Rattle.std.specs.Prelude.{ℕ, Bool, not, ◌&&◌, ◌||◌, cond, List, [], ◌∷◌, ◌++◌, leb, eqb, length}
 use Rattle.error.specs.declared.Validation.{Validation}
-use Rattle.error.specs.declared.Check.{Check}
-use Rattle.error.specs.declared.Check.TheVariants.{Refused}
+use Rattle.error.specs.Answer.{Check}
+use Rattle.std.specs.Prelude.{Err}
 use Rattle.error.specs.Answer.{violation_of}
 use Rattle.error.specs.Demand.{Demand, ◌otherwise◌, passing, demands}
 use Rattle.error.specs.Reason as reason
@@ -96,7 +96,7 @@ cleanup_record key value blocks page_generation mode =
     cond (eqb (cleanup_kind key) 1) (validate_retirement key value blocks page_generation mode)
     (cond (eqb (cleanup_kind key) 2) (validate_detached_tree key value blocks page_generation mode)
     (cond (eqb (cleanup_kind key) 3) (validate_orphan_marker key value mode)
-    (Refused (violation_of mode reason.unknown_cleanup_record_kind))))
+    (Err (violation_of mode reason.unknown_cleanup_record_kind))))
 
 -- `validate_cleanup_key_value`, READING-RULES 12.1: a key has 9 or 17 bytes
 abbrev pub is_cleanup_length : ℕ → Bool

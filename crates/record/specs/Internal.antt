@@ -1,9 +1,10 @@
 -- Records of internal pages (01, section 5: field rules are the Rust's, here those of `validate_internal_record`): a key of the tree's kind, and a reference to a page.
 use Rattle.std.specs.Prelude.{ℕ, not, ◌&&◌, ◌||◌, cond, List, [], ◌∷◌, leb, eqb, length}
 use Rattle.error.specs.declared.Validation.{Validation}
-use Rattle.error.specs.declared.Check.{Check}
-use Rattle.error.specs.declared.Check.TheVariants.{Refused}
-use Rattle.error.specs.declared.Number.{Number}
+use Rattle.error.specs.Answer.{Check}
+use Rattle.std.specs.Prelude.{Result, Ok, Err}
+use Rattle.error.specs.declared.Error.{Error}
+use Rattle.error.specs.Answer.{Number}
 use Rattle.error.specs.Answer.{violation_of, number_check}
 use Rattle.error.specs.Demand.{Demand, ◌otherwise◌, passing, outcome, demands}
 use Rattle.error.specs.Reason as reason
@@ -12,7 +13,6 @@ use Rattle.volume.specs.declared.TreeKind.{TreeKind}
 use Rattle.volume.specs.Blocks.{is_nonreserved_block}
 use Rattle.volume.specs.References.{ref_at, validate_page_ref}
 use Rattle.catalog.specs.Keys.{validate_owner_id, validate_catalog_key}
-use Rattle.record.specs.declared.Child.{Child}
 use Rattle.record.specs.Allocation.{group_number, validate_group_index}
 use Rattle.record.specs.Cleanup.{cleanup_kind, cleanup_number, cleanup_block}
 use Rattle.record.specs.Workspace.{validate_workspace_key}
@@ -44,7 +44,7 @@ unfoldable pub cleanup_internal_key : List ℕ → ℕ → ℕ → Validation �
 cleanup_internal_key key blocks page_generation mode =
     cond (eqb (cleanup_kind key) 1 && eqb (length key) 17) (retirement_key (cleanup_number key) (cleanup_block key) blocks page_generation mode)
     (cond ((eqb (cleanup_kind key) 2 || eqb (cleanup_kind key) 3) && eqb (length key) 9) (validate_owner_id (cleanup_number key) mode)
-    (Refused (violation_of mode reason.invalid_cleanup_internal_key)))
+    (Err (violation_of mode reason.invalid_cleanup_internal_key)))
 
 -- `validate_internal_record`, READING-RULES 14: a key by its tree's kind
 unfoldable pub internal_key : TreeKind → List ℕ → ℕ → ℕ → Validation → Check
@@ -71,11 +71,15 @@ internal_demands kind key value blocks page_generation mode =
     ∷ eqb (length value) 16 otherwise violation_of mode reason.internal_value_is_not_a_tree_reference
     ∷ child_demands (child_ref value) kind blocks page_generation mode
 
+-- the answer of an internal record: the page that it names, or a refusal
+abbrev pub Child : Type 0
+Child = Result TreeRef Error
+
 -- 01, "Return classes": the first that fails answers; else the child's reference
 unfoldable pub validate_internal_record : TreeKind → List ℕ → List ℕ → ℕ → ℕ → Validation → Child
-validate_internal_record kind key value blocks page_generation mode = outcome (internal_demands kind key value blocks page_generation mode) Child.Refused (Child.Reference (child_ref value))
+validate_internal_record kind key value blocks page_generation mode = outcome (internal_demands kind key value blocks page_generation mode) (Ok (child_ref value))
 
 -- that answer, as that of a check that gives a number: the block of the page that the record names
 abbrev pub child_block : Child → Number
-child_block (Child.Reference reference) = Number.Value reference.block
-child_block (Child.Refused e) = Number.Refused e
+child_block (Ok reference) = Ok reference.block
+child_block (Err e) = Err e

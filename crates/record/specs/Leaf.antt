@@ -3,9 +3,9 @@ use Rattle.std.specs.Prelude.{ℕ, ◌+◌, ◌&&◌, cond, List, [], ◌∷◌,
 use Rattle.error.specs.declared.Error.TheVariants.{InvalidInput}
 use Rattle.error.specs.declared.Validation.{Validation}
 use Rattle.error.specs.declared.Validation.TheVariants.{Input}
-use Rattle.error.specs.declared.Check.{Check}
-use Rattle.error.specs.declared.Check.TheVariants.{Refused}
-use Rattle.error.specs.declared.Number.{Number}
+use Rattle.error.specs.Answer.{Check}
+use Rattle.std.specs.Prelude.{Ok, Err}
+use Rattle.error.specs.Answer.{Number}
 use Rattle.error.specs.Answer.{violation_of, number_check}
 use Rattle.error.specs.Demand.{Demand, ◌otherwise◌, passing, outcome}
 use Rattle.error.specs.Reason as reason
@@ -25,7 +25,7 @@ uncounted_record key value blocks mode =
     cond (eqb (key_kind key) 1) (validate_inode value blocks mode)
     (cond (eqb (key_kind key) 2) (validate_directory_entry value mode)
     (cond (eqb (key_kind key) 4) (validate_checksum_group key value mode)
-    (Refused (violation_of mode reason.unknown_catalog_record_kind))))
+    (Err (violation_of mode reason.unknown_catalog_record_kind))))
 
 -- `validate_leaf_record`, READING-RULES 8.3: a catalog record by its kind: extent 3, or one that counts no blocks
 abbrev pub catalog_record : List ℕ → List ℕ → ℕ → Validation → Check
@@ -34,7 +34,7 @@ catalog_record key value blocks mode = cond (eqb (key_kind key) 3) (number_check
 -- `validate_leaf_record`, READING-RULES 8.3: what is asked of a catalog record, in order: its key, then the record by its kind
 abbrev pub catalog_leaf_demands : List ℕ → List ℕ → ℕ → Validation → List Demand
 catalog_leaf_demands key value blocks mode =
-    passing (number_check (validate_catalog_key key mode))
+    passing (validate_catalog_key key mode)
     ∷ passing (catalog_record key value blocks mode)
     ∷ []
 
@@ -59,7 +59,7 @@ leaf_blocks TreeKind.Workspace key value = 0
 -- 01, "Return classes": the first that fails answers; else the blocks that the record counts
 unfoldable pub validate_leaf_record : TreeKind → List ℕ → List ℕ → ℕ → ℕ → Validation → Number
 validate_leaf_record kind key value blocks page_generation mode =
-    outcome (leaf_demands kind key value blocks page_generation mode) Number.Refused (Number.Value (leaf_blocks kind key value))
+    outcome (leaf_demands kind key value blocks page_generation mode) (Ok (leaf_blocks kind key value))
 
 -- 01, section 5: key length 1..1024, and at most 3,072 bytes together, the four of the two lengths among them
 abbrev pub record_size_demands : List ℕ → List ℕ → List Demand
@@ -70,4 +70,4 @@ record_size_demands key value =
 
 -- `leaf_record_blocks`, READING-RULES 8.2: the same of a record that is to be written, after its size
 unfoldable pub leaf_record_blocks : TreeKind → List ℕ → List ℕ → ℕ → ℕ → Number
-leaf_record_blocks kind key value blocks generation = outcome (record_size_demands key value) Number.Refused (validate_leaf_record kind key value blocks generation Input)
+leaf_record_blocks kind key value blocks generation = outcome (record_size_demands key value) (validate_leaf_record kind key value blocks generation Input)

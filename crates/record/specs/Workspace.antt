@@ -1,7 +1,7 @@
 -- Runs of the workspace (01, section 5: field rules are the Rust's, here those of `validate_workspace_key` and `validate_workspace_run`).
 use Rattle.std.specs.Prelude.{ℕ, ◌+◌, ◌-◌, not, ◌&&◌, List, [], ◌∷◌, eqb, length}
 use Rattle.error.specs.declared.Validation.{Validation}
-use Rattle.error.specs.declared.Check.{Check}
+use Rattle.error.specs.Answer.{Check}
 use Rattle.error.specs.Answer.{violation_of}
 use Rattle.error.specs.Demand.{Demand, ◌otherwise◌, passing, demands}
 use Rattle.error.specs.Reason as reason

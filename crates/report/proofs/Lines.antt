@@ -1,9 +1,11 @@
 -- The lines, put together of their pieces.
 use Prim.Native.Nat.{ℕ}
-use mathlib.Core.Path.{◌≡◌, refl, ap}
+use mathlib.Core.Path.{◌≡◌, refl}
 use mathlib.Core.List.{List, [], ◌∷◌, ◌++◌, append-nil}
 use native.Mathlib.Omega.{arith}
-use borrow.Author.Tests.{eq-eqb, ne_eqb}
+use borrow.Author.Tests.{eq-eqb}
+use mathlib.Core.Bool.{Bool, true, false, cond}
+use lib.Dec.{eqb}
 use lib.ListN.{length}
 use Rattle.octets.specs.Bytes.{Laid}
 use Rattle.report.specs.Line.{newline, answer, label_field, body_line}
@@ -25,9 +27,17 @@ no_label label l h = rw (none label h) l
 pub a_label : {label out after last : List ℕ} {at middle r : ℕ} → Laid out at (32 ∷ []) after middle → Laid after middle label last r → (length label ≡ 0 → ⊥) → Laid out at (label_field label) last r
 a_label {label} f g h = laid_two f g (some label h)
 
-pub line_refused : (number class reason : ℕ) (fields : List ℕ) {out after last : List ℕ} {at middle r : ℕ} → Laid out at (answer number class reason) after middle → Laid after middle newline last r → (class ≡ 0 → ⊥) → Laid out at (body_line number class reason fields) last r
+-- behind a refusal no fields stand
+bare : (b : Bool) → cond {A = List ℕ} b [] [] ≡ []
+bare true = refl
+bare false = refl
+
+bare_line : (number class reason : ℕ) → body_line number class reason [] ≡ answer number class reason ++ newline
 unfolding body_line
-line_refused number class reason fields f g h = rw (ne_eqb class 0 h) (laid_two f g (ap (λ (t : List ℕ). t ++ newline) (append-nil (answer number class reason))))
+bare_line number class reason = rw (bare (eqb class 0), append-nil (answer number class reason))
+
+pub line_refused : (number class reason : ℕ) {out after last : List ℕ} {at middle r : ℕ} → Laid out at (answer number class reason) after middle → Laid after middle newline last r → Laid out at (body_line number class reason []) last r
+line_refused number class reason f g = laid_two f g (bare_line number class reason)
 
 pub line_accepted : (number class reason : ℕ) (fields : List ℕ) {out o₁ o₂ last : List ℕ} {at r₁ r₂ r : ℕ} → Laid out at (answer number class reason) o₁ r₁ → Laid o₁ r₁ fields o₂ r₂ → Laid o₂ r₂ newline last r → class ≡ 0 → Laid out at (body_line number class reason fields) last r
 unfolding body_line

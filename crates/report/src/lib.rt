@@ -1,5 +1,6 @@
 // Fields and lines of the programs, as bytes in a lent buffer. Document 01, "The program readback".
 // Each function lays its text into the buffer from `at` on and returns the place behind it; what the buffer has no room for is left out.
+// Kept: `out` and `at` travel together: a struct that holds the lent buffer needs a second clause in each function, that it is the same one still.
 #![tactic(auto)]
 
 ghost use Rattle.std.specs.Prelude.{◌≡◌, [], ◌∷◌, ◌+◌, ◌%◌, ◌≤◌, ◌<◌, length, drop};
@@ -10,13 +11,10 @@ ghost use Rattle.report.specs.Line.{head_line, answer, label_field, root_fields,
 pub fn put_byte(out: &mut [u8], at: usize, byte: u8) -> usize
     ensures { Laid out.old at (byte ∷ []) out.new result }
 {
-    if at < out.len() {
-        out[at] = byte;
-        return at + 1;
-    }
-    at
+    octets::put(out, at, &[byte])
 }
 
+// Kept: digits by hand, here and in `hex_digit`: the library prints through a formatter, and a lent buffer with a place in it is none.
 fn digit(n: u64) -> u8
     ensures { result ≡ 48 + n % 10 }
 {
@@ -29,17 +27,15 @@ fn spell(n: u64, text: &mut [u8]) -> usize
     ensures { (result ≤ 20) × (drop result text.new ≡ decimal n) }
 {
     text[19] = digit(n);
-    let mut i = 19;
     let mut rest = n / 10;
-    while i > 0 {
+    for i in (0..19).rev() {
         if rest == 0 {
-            return i;
+            return i + 1;
         }
-        i -= 1;
         text[i] = digit(rest);
-        rest = rest / 10;
+        rest /= 10;
     }
-    i
+    0
 }
 
 pub fn decimal(out: &mut [u8], at: usize, n: u64) -> usize
@@ -59,12 +55,13 @@ pub fn number_field(out: &mut [u8], at: usize, n: u64) -> usize
 }
 
 // Each number behind a space.
+// Kept: three such loops of one line, here and below: a closure that is lent the buffer would need clauses of its own.
 pub fn number_fields(out: &mut [u8], at: usize, numbers: &[u64]) -> usize
     ensures { Laid out.old at (number_fields numbers.now) out.new result }
 {
     let mut behind = at;
-    for i in 0..numbers.len() {
-        behind = number_field(out, behind, numbers[i]);
+    for &n in numbers {
+        behind = number_field(out, behind, n);
     }
     behind
 }
@@ -88,8 +85,8 @@ pub fn hex_field(out: &mut [u8], at: usize, bytes: &[u8]) -> usize
     ensures { Laid out.old at (hex_field bytes.now) out.new result }
 {
     let mut behind = octets::put(out, at, b" x");
-    for i in 0..bytes.len() {
-        behind = hex_byte(out, behind, bytes[i]);
+    for &byte in bytes {
+        behind = hex_byte(out, behind, byte);
     }
     behind
 }
@@ -107,8 +104,8 @@ pub fn entries_field(out: &mut [u8], at: usize, entries: &[u16]) -> usize
     ensures { Laid out.old at (entries_field entries.now) out.new result }
 {
     let mut behind = octets::put(out, at, b" x");
-    for i in 0..entries.len() {
-        behind = hex_entry(out, behind, entries[i]);
+    for &entry in entries {
+        behind = hex_entry(out, behind, entry);
     }
     behind
 }
@@ -153,42 +150,28 @@ fn page_fields(out: &mut [u8], at: usize, level: u8, total: u64, count: u64) -> 
     number_field(out, totalled, count)
 }
 
-// The line of a root: its generation and label count only beside class 0.
-pub fn root_line(
-    out: &mut [u8],
-    at: usize,
-    number: u64,
-    class: u16,
-    reason: u16,
-    generation: u64,
-    label: &[u8],
-) -> usize
-    ensures { Laid out.old at (body_line number class reason (root_fields generation label.now)) out.new result }
+// The line of a refusal: its class and reason alone.
+pub fn refused_line(out: &mut [u8], at: usize, number: u64, class: u16, reason: u16) -> usize
+    ensures { Laid out.old at (body_line number class reason []) out.new result }
 {
     let answered = answer(out, at, number, class, reason);
-    if class != 0 {
-        return put_byte(out, answered, b'\n');
-    }
+    put_byte(out, answered, b'\n')
+}
+
+// The line of an accepted root.
+pub fn root_line(out: &mut [u8], at: usize, number: u64, generation: u64, label: &[u8]) -> usize
+    ensures { Laid out.old at (body_line number 0 0 (root_fields generation label.now)) out.new result }
+{
+    let answered = answer(out, at, number, 0, 0);
     let told = root_fields(out, answered, generation, label);
     put_byte(out, told, b'\n')
 }
 
-pub fn page_line(
-    out: &mut [u8],
-    at: usize,
-    number: u64,
-    class: u16,
-    reason: u16,
-    level: u8,
-    total: u64,
-    count: u64,
-) -> usize
-    ensures { Laid out.old at (body_line number class reason (page_fields level total count)) out.new result }
+// The line of an accepted page.
+pub fn page_line(out: &mut [u8], at: usize, number: u64, level: u8, total: u64, count: u64) -> usize
+    ensures { Laid out.old at (body_line number 0 0 (page_fields level total count)) out.new result }
 {
-    let answered = answer(out, at, number, class, reason);
-    if class != 0 {
-        return put_byte(out, answered, b'\n');
-    }
+    let answered = answer(out, at, number, 0, 0);
     let told = page_fields(out, answered, level, total, count);
     put_byte(out, told, b'\n')
 }

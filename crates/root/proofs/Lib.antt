@@ -1,5 +1,5 @@
 pub mod Text
-pub mod Numbers
+pub mod Same
 pub mod Decode
 pub mod Choice
 pub mod Cases

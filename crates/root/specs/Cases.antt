@@ -9,7 +9,7 @@ use Rattle.root.specs.Root.{root_decode}
 
 -- the text makes a label
 abbrev pub is_new : List ℕ → Bool
-is_new text = is_passed (label_new text).answer
+is_new text = is_passed (label_new text)
 
 -- U+009F, two bytes in UTF-8
 abbrev pub u009_f : List ℕ
@@ -27,7 +27,7 @@ cases =
 -- a root of so many bytes, in any slot of a volume of so many blocks, answers this class and reason
 abbrev pub RootAnswers : ℕ → ℕ → ℕ → ℕ → Type 0
 RootAnswers bytes blocks class why =
-    (s : List ℕ) (slot : ℕ) → length s ≡ bytes → (check_class (root_decode s slot blocks).answer ≡ class) × (check_reason (root_decode s slot blocks).answer ≡ why)
+    (s : List ℕ) (slot : ℕ) → length s ≡ bytes → (check_class (root_decode s slot blocks) ≡ class) × (check_reason (root_decode s slot blocks) ≡ why)
 
 -- section 3: the labels, and two roots' answers
 pub record CasesHold : Type 0 where

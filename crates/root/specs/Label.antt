@@ -1,15 +1,13 @@
 -- Volume labels (01, section 3).
-use Rattle.std.specs.Prelude.{ℕ, Bool, not, ◌&&◌, List, [], ◌∷◌, leb, length, take, replicate}
+use Rattle.std.specs.Prelude.{ℕ, Bool, not, ◌&&◌, List, [], ◌∷◌, leb, length, take, Result, Ok}
 use Rattle.error.specs.declared.Error.{Error}
 use Rattle.error.specs.declared.Error.TheVariants.{InvalidInput}
-use Rattle.error.specs.declared.Check.TheVariants.{Passed, Refused}
 use Rattle.error.specs.Demand.{Demand, ◌otherwise◌, outcome}
 use Rattle.error.specs.Reason as reason
 use Rattle.octets.specs.Bytes.{padded_to, same_bytes}
 use Rattle.utf8.specs.Reading.{utf8}
 use Rattle.utf8.specs.Plain.{plain}
 use Rattle.root.specs.declared.Label.{Label}
-use Rattle.root.specs.declared.NewLabel.{NewLabel}
 
 -- section 3: the text `.`
 abbrev pub dot : List ℕ
@@ -37,18 +35,10 @@ text_of label = take label.len label.bytes
 unfoldable pub label_of : List ℕ → Label
 label_of text = record { len = length text; bytes = padded_to 255 text }
 
--- 01, section 3: length 0 is no label; its bytes are zeros
-unfoldable pub no_label : Label
-no_label = record { len = 0; bytes = replicate 255 0 }
-
--- 01, "Return classes": beside a refusal the label is all zero
-abbrev pub label_refused : Error → NewLabel
-label_refused e = record { answer = Refused e; label = no_label }
-
 -- section 3: what is asked of a label that `Label::new` is given
 abbrev pub label_demands : List ℕ → List Demand
 label_demands text = is_label text otherwise InvalidInput reason.invalid_volume_label ∷ []
 
 -- section 3: `Label::new`
-unfoldable pub label_new : List ℕ → NewLabel
-label_new text = outcome (label_demands text) label_refused (record { answer = Passed; label = label_of text })
+unfoldable pub label_new : List ℕ → Result Label Error
+label_new text = outcome (label_demands text) (Ok (label_of text))

@@ -1,10 +1,10 @@
 -- A root in a block of 4,096 bytes (01, section 3): where its fields stand, and the checks in their order.
-use Rattle.std.specs.Prelude.{ℕ, ◌+◌, ◌-◌, Bool, false, not, ◌&&◌, cond, List, [], ◌∷◌, leb, eqb, length, replicate}
+use Rattle.std.specs.Prelude.{ℕ, ◌+◌, ◌-◌, Bool, not, ◌&&◌, cond, List, [], ◌∷◌, leb, eqb, length}
 use Rattle.error.specs.declared.Error.{Error}
 use Rattle.error.specs.declared.Error.TheVariants.{InvalidGeometry, Corrupt, UnsupportedFormat}
 use Rattle.error.specs.declared.Validation.TheVariants.{Input, Disk}
-use Rattle.error.specs.declared.Check.{Check}
-use Rattle.error.specs.declared.Check.TheVariants.{Passed, Refused}
+use Rattle.error.specs.Answer.{Check}
+use Rattle.std.specs.Prelude.{Option, Some, None, Result, Ok}
 use Rattle.error.specs.Demand.{Demand, ◌otherwise◌, passing, outcome, demands}
 use Rattle.error.specs.Reason as reason
 use Rattle.octets.specs.Bytes.{part, all_zero, starts_with}
@@ -12,11 +12,10 @@ use Rattle.octets.specs.Number.{u16_at, u32_at, u64_at}
 use Rattle.crc.specs.Crc.{crc32c_with_zero}
 use Rattle.utf8.specs.Reading.{utf8}
 use Rattle.volume.specs.References.{ref_at, validate_root_slot}
-use Rattle.volume.specs.declared.TreeRef.{TreeRef}
-use Rattle.root.specs.Label.{is_label, label_of, no_label}
+use Rattle.root.specs.Label.{is_label, label_of}
 use Rattle.root.specs.Fields.{validate_root_fields}
+use Rattle.root.specs.declared.Label.{Label}
 use Rattle.root.specs.declared.Root.{Root}
-use Rattle.root.specs.declared.Decoded.{Decoded}
 
 -- section 3: `CFSXROOT`
 abbrev pub magic : List ℕ
@@ -34,6 +33,10 @@ has_label s = not (eqb (label_length s) 0)
 unfoldable pub label_text : List ℕ → List ℕ
 label_text s = part s 186 (label_length s)
 
+-- section 3: the label of the root in a block
+abbrev pub label_in : List ℕ → Option Label
+label_in s = cond (has_label s) (Some (label_of (label_text s))) None
+
 -- section 3: the bytes behind it, to the checksum
 unfoldable pub label_padding : List ℕ → List ℕ
 label_padding s = part s (186 + label_length s) (4092 - (186 + label_length s))
@@ -41,8 +44,7 @@ label_padding s = part s (186 + label_length s) (4092 - (186 + label_length s))
 -- section 3: the fields of the root in a block
 unfoldable pub root_of : List ℕ → Root
 root_of s = record {
-  has_label = has_label s;
-  label = label_of (label_text s);
+  label = label_in s;
   uuid = part s 24 16;
   generation = u64_at s 48;
   blocks = u64_at s 56;
@@ -105,7 +107,7 @@ abbrev pub label_field_demands : List ℕ → List Demand
 label_field_demands s =
     leb (label_length s) 255 otherwise Corrupt reason.root_label_length
     ∷ all_zero (label_padding s) otherwise Corrupt reason.root_label_padding
-    ∷ passing (cond (eqb (label_length s) 0) Passed (check_text (label_text s)))
+    ∷ passing (cond (eqb (label_length s) 0) (Ok tt) (check_text (label_text s)))
     ∷ []
 
 -- 01, "Return classes": the first that fails answers
@@ -137,32 +139,6 @@ block_demands s slot blocks =
 unfoldable pub check_block : List ℕ → ℕ → ℕ → Check
 check_block s slot blocks = demands (block_demands s slot blocks)
 
--- 01, "Return classes": the reference that stands beside a refusal, all zero
-abbrev pub no_ref : TreeRef
-no_ref = record { block = 0; generation = 0 }
-
--- 01, "Return classes": the root that stands beside a refusal, all zero, without a label
-unfoldable pub no_root : Root
-no_root = record {
-  has_label = false;
-  label = no_label;
-  uuid = replicate 16 0;
-  generation = 0;
-  blocks = 0;
-  catalog = no_ref;
-  allocation = no_ref;
-  cleanup = no_ref;
-  next_object = 0;
-  free_blocks = 0;
-  next_job = 0;
-  workspace = no_ref;
-  workspace_cursor = 0;
-}
-
--- 01, "Return classes": a refusal, and no root beside it
-abbrev pub root_refused : Error → Decoded
-root_refused e = record { answer = Refused e; root = no_root }
-
 -- section 3: what `Root::decode` asks, in order
 abbrev pub root_demands : List ℕ → ℕ → ℕ → List Demand
 root_demands s slot blocks =
@@ -171,5 +147,5 @@ root_demands s slot blocks =
     ∷ []
 
 -- section 3: `Root::decode`
-unfoldable pub root_decode : List ℕ → ℕ → ℕ → Decoded
-root_decode s slot blocks = outcome (root_demands s slot blocks) root_refused (record { answer = Passed; root = root_of s })
+unfoldable pub root_decode : List ℕ → ℕ → ℕ → Result Root Error
+root_decode s slot blocks = outcome (root_demands s slot blocks) (Ok (root_of s))

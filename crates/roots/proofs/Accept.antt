@@ -10,10 +10,9 @@ use borrow.Author.Tests.{le-leb, leb-true, lt-ltb, ltb-true, eq-eqb, ne_eqb, eqb
 use lib.Dec.{leb, eqb}
 use lib.ListN.{length}
 use Rattle.error.specs.declared.Validation.TheVariants.{Input, Disk}
-use Rattle.error.specs.declared.Check.{Check}
-use Rattle.error.specs.declared.Check.TheVariants.{Passed, Refused}
-use Rattle.error.specs.Demand.{is_passed, demands, AllHold}
-use Rattle.error.proofs.Exactly.{all_hold, all_pass, passed_is, passed_test, by, outcome_by, outcome_holds}
+use Rattle.std.specs.Prelude.{Ok}
+use Rattle.error.specs.Demand.{is_passed, AllHold}
+use Rattle.error.proofs.Exactly.{all_hold, all_pass, passed_is, passed_test, outcome_holds, given_exactly}
 use Rattle.error.proofs.Tests.{and_left, and_right, and_both, not_yes}
 use Rattle.octets.specs.Bytes.{part, all_zero, same_bytes, starts_with}
 use Rattle.octets.specs.Number.{u32_at, u64_at}
@@ -23,10 +22,10 @@ use Rattle.crc.specs.Crc.{crc32c_with_zero}
 use Rattle.utf8.proofs.Grammar.{utf8_is_grammar}
 use Rattle.volume.specs.Blocks.{is_bank_root}
 use Rattle.volume.specs.References.{ref_at, validate_root_slot, validate_uuid, validate_tree_ref, validate_workspace_ref}
-use Rattle.root.specs.declared.Decoded.{Decoded}
+use Rattle.root.specs.declared.Root.{Root}
 use Rattle.root.specs.Fields.{general_demands, check_general, refs_demands, check_refs, workspace_demands, check_workspace, trees_demands, check_trees, max_id, numbers_demands, check_numbers, field_demands, validate_root_fields}
 use Rattle.volume.specs.Groups.{groups_of}
-use Rattle.root.specs.Root.{magic, label_length, label_text, label_padding, root_of, place_demands, check_place, checksum_fits, are_sizes_right, envelope_demands, check_envelope, text_demands, check_text, label_field_demands, check_label, identity_demands, check_identity, block_demands, check_block, root_refused, root_demands, root_decode}
+use Rattle.root.specs.Root.{magic, label_length, label_text, label_padding, root_of, place_demands, check_place, checksum_fits, are_sizes_right, envelope_demands, check_envelope, text_demands, check_text, label_field_demands, check_label, identity_demands, check_identity, block_demands, check_block, root_demands, root_decode}
 use Rattle.roots.specs.Accept.{LabelHolds, TreeHolds, RootHolds, RootExactly}
 use Rattle.roots.proofs.LabelAccept.{label_accepted, accepted_label}
 use Rattle.roots.proofs.Refs.{zeros_are, zeros_zero, enough_blocks, slot_place, place_slot, uuid_some, some_uuid, tree_holds, holds_tree, workspace_holds, holds_workspace, bank_root, is_bank_root_lem}
@@ -62,29 +61,19 @@ three_fit a b c blocks la ha lb hb lc hc ab ac bc = go (dec_lt a b) (dec_lt a c)
 
 -- ---- the call's answer, and its two groups of checks
 
-passed_by : (c : Check) (d : Decoded) → (by c root_refused d).answer ≡ Passed → c ≡ Passed
-passed_by Passed d e = refl
-passed_by (Refused x) d e = e
-
 module _ (s : List ℕ) (slot blocks : ℕ) where
-  pub decode_holds : (root_decode s slot blocks).answer ≡ Passed → (check_block s slot blocks ≡ Passed) × (validate_root_fields (root_of s) slot blocks Disk ≡ Passed)
+  decode_holds : (r : Root) → root_decode s slot blocks ≡ Ok r → AllHold (root_demands s slot blocks) × (r ≡ root_of s)
   unfolding root_decode
-  decode_holds e =
-      let d : Decoded = record { answer = Passed; root = root_of s } in
-      let c : demands (root_demands s slot blocks) ≡ Passed =
-      passed_by (demands (root_demands s slot blocks)) d (ap (λ (x : Decoded). x.answer) (sym (outcome_by (root_demands s slot blocks) root_refused d)) ∙ e) in
-      let h = all_hold (root_demands s slot blocks) c in
-      (passed_is (check_block s slot blocks) h.0, passed_is (validate_root_fields (root_of s) slot blocks Disk) h.1.0)
+  decode_holds r e = (given_exactly (root_demands s slot blocks) (root_of s) r).0 e
 
   -- where both pass, the root is the one that stands in the block
-  pub decoded : check_block s slot blocks ≡ Passed → validate_root_fields (root_of s) slot blocks Disk ≡ Passed
-      → root_decode s slot blocks ≡ record { answer = Passed; root = root_of s }
+  decoded : check_block s slot blocks ≡ Ok tt → validate_root_fields (root_of s) slot blocks Disk ≡ Ok tt → root_decode s slot blocks ≡ Ok (root_of s)
   unfolding root_decode
-  decoded p q = outcome_holds (root_demands s slot blocks) root_refused (record { answer = Passed; root = root_of s }) (passed_test _ p, (passed_test _ q, tt))
+  decoded p q = outcome_holds (root_demands s slot blocks) (Ok (root_of s)) (passed_test _ tt p, (passed_test _ tt q, tt))
 
 -- ---- what passes meets the conditions
 
-label_holds : (s : List ℕ) (n : ℕ) (b : Bool) → eqb n 0 ≡ b → is_passed (cond b Passed (check_text (label_text s))) ≡ true → (n ≡ 0) ⊎ LabelHolds (label_text s)
+label_holds : (s : List ℕ) (n : ℕ) (b : Bool) → eqb n 0 ≡ b → is_passed (cond b (Ok tt) (check_text (label_text s))) ≡ true → (n ≡ 0) ⊎ LabelHolds (label_text s)
 unfolding check_text
 label_holds s n true p e = inl (eqb-true n 0 p)
 label_holds s n false p e = inr (label_accepted (label_text s) (all_hold (text_demands (label_text s)) (passed_is (check_text (label_text s)) e)).1.0)
@@ -92,7 +81,7 @@ label_holds s n false p e = inr (label_accepted (label_text s) (all_hold (text_d
 tree_accepted : (block born generation blocks : ℕ) → (512 ≤ block) × (block < blocks - 512) × (1 ≤ born) → born ≤ generation → TreeHolds block born generation blocks
 tree_accepted block born generation blocks t n = record { low = t.0; high = t.1; some = t.2; not_newer = n }
 
-module _ (s : List ℕ) (slot blocks : ℕ) (p : check_block s slot blocks ≡ Passed) (q : validate_root_fields (root_of s) slot blocks Disk ≡ Passed) where
+module _ (s : List ℕ) (slot blocks : ℕ) (p : check_block s slot blocks ≡ Ok tt) (q : validate_root_fields (root_of s) slot blocks Disk ≡ Ok tt) where
   block : AllHold (block_demands s slot blocks)
   unfolding check_block
   block = all_hold (block_demands s slot blocks) p
@@ -117,41 +106,31 @@ module _ (s : List ℕ) (slot blocks : ℕ) (p : check_block s slot blocks ≡ P
   unfolding validate_root_fields
   fields = all_hold (field_demands (root_of s) slot blocks Disk) q
 
-  general : AllHold (general_demands (part s 24 16) (u64_at s 48) (u64_at s 56) (u64_at s 176) slot blocks Disk)
-  unfolding root_of check_general
-  general =
-      all_hold (general_demands (part s 24 16) (u64_at s 48) (u64_at s 56) (u64_at s 176) slot blocks Disk)
-      (passed_is (check_general (part s 24 16) (u64_at s 48) (u64_at s 56) (u64_at s 176) slot blocks Disk) fields.0)
+  general : AllHold (general_demands (root_of s) slot blocks Disk)
+  unfolding check_general
+  general = all_hold (general_demands (root_of s) slot blocks Disk) (passed_is (check_general (root_of s) slot blocks Disk) fields.0)
 
-  refs : AllHold (refs_demands (ref_at s 64) (ref_at s 80) (ref_at s 96) blocks Disk)
-  unfolding root_of check_refs
-  refs =
-      all_hold (refs_demands (ref_at s 64) (ref_at s 80) (ref_at s 96) blocks Disk)
-      (passed_is (check_refs (ref_at s 64) (ref_at s 80) (ref_at s 96) blocks Disk) fields.1.0)
+  refs : AllHold (refs_demands (root_of s) blocks Disk)
+  unfolding check_refs
+  refs = all_hold (refs_demands (root_of s) blocks Disk) (passed_is (check_refs (root_of s) blocks Disk) fields.1.0)
 
-  workspace_is : AllHold (workspace_demands (ref_at s 160) (u64_at s 48) blocks Disk)
-  unfolding root_of check_workspace
-  workspace_is =
-      all_hold (workspace_demands (ref_at s 160) (u64_at s 48) blocks Disk)
-      (passed_is (check_workspace (ref_at s 160) (u64_at s 48) blocks Disk) fields.1.1.0)
+  workspace_is : AllHold (workspace_demands (root_of s) blocks Disk)
+  unfolding check_workspace
+  workspace_is = all_hold (workspace_demands (root_of s) blocks Disk) (passed_is (check_workspace (root_of s) blocks Disk) fields.1.1.0)
 
-  trees : AllHold (trees_demands (ref_at s 64) (ref_at s 80) (ref_at s 96) (u64_at s 48) Disk)
-  unfolding root_of check_trees
-  trees =
-      all_hold (trees_demands (ref_at s 64) (ref_at s 80) (ref_at s 96) (u64_at s 48) Disk)
-      (passed_is (check_trees (ref_at s 64) (ref_at s 80) (ref_at s 96) (u64_at s 48) Disk) fields.1.1.1.0)
+  trees : AllHold (trees_demands (root_of s) Disk)
+  unfolding check_trees
+  trees = all_hold (trees_demands (root_of s) Disk) (passed_is (check_trees (root_of s) Disk) fields.1.1.1.0)
 
-  numbers : AllHold (numbers_demands (u64_at s 112) (u64_at s 152) (u64_at s 120) blocks Disk)
-  unfolding root_of check_numbers
-  numbers =
-      all_hold (numbers_demands (u64_at s 112) (u64_at s 152) (u64_at s 120) blocks Disk)
-      (passed_is (check_numbers (u64_at s 112) (u64_at s 152) (u64_at s 120) blocks Disk) fields.1.1.1.1.0)
+  numbers : AllHold (numbers_demands (root_of s) blocks Disk)
+  unfolding check_numbers
+  numbers = all_hold (numbers_demands (root_of s) blocks Disk) (passed_is (check_numbers (root_of s) blocks Disk) fields.1.1.1.1.0)
 
   tree : (offset : ℕ) → is_passed (validate_tree_ref (ref_at s offset) blocks Disk) ≡ true → (512 ≤ u64_at s offset) × (u64_at s offset < blocks - 512) × (1 ≤ u64_at s (offset + 8))
   tree offset e = tree_holds (ref_at s offset) blocks Disk (passed_is (validate_tree_ref (ref_at s offset) blocks Disk) e)
 
-  pub root_accepted : RootHolds s slot blocks
-  unfolding checksum_fits are_sizes_right label_text label_padding
+  root_accepted : RootHolds s slot blocks
+  unfolding root_of checksum_fits are_sizes_right label_text label_padding
   root_accepted =
       let n = label_length s in
       let size : length s ≡ 4096 = eqb-true (length s) 4096 place_is.0 in
@@ -213,13 +192,13 @@ module _ (s : List ℕ) (slot blocks : ℕ) (p : check_block s slot blocks ≡ P
 -- ---- what meets the conditions passes
 
 module _ (s : List ℕ) (slot blocks : ℕ) (r : RootHolds s slot blocks) where
-  place_passes : check_place s slot blocks ≡ Passed
+  place_passes : check_place s slot blocks ≡ Ok tt
   unfolding check_place
   place_passes =
       all_pass (place_demands s slot blocks)
-      (eq-eqb (length s) 4096 r.size, (le-leb 1024 blocks r.geometry, (passed_test (validate_root_slot slot blocks Input) (place_slot blocks Input slot r.geometry r.place), tt)))
+      (eq-eqb (length s) 4096 r.size, (le-leb 1024 blocks r.geometry, (passed_test (validate_root_slot slot blocks Input) tt (place_slot blocks Input slot r.geometry r.place), tt)))
 
-  envelope_passes : check_envelope s ≡ Passed
+  envelope_passes : check_envelope s ≡ Ok tt
   unfolding check_envelope checksum_fits are_sizes_right
   envelope_passes =
       let front : starts_with s magic ≡ true = ap (λ (x : List ℕ). same_bytes x magic) r.magic_is ∙ same_self magic in
@@ -227,85 +206,83 @@ module _ (s : List ℕ) (slot blocks : ℕ) (r : RootHolds s slot blocks) where
       all_pass (envelope_demands s)
       (eq-eqb (crc32c_with_zero s 4092 4096) (u32_at s 4092) (sym r.checksum), (front, (eq-eqb (u32_at s 8) 1 r.revision, (sizes, tt))))
 
-  text_passes : (n : ℕ) (b : Bool) → eqb n 0 ≡ b → (n ≡ 0) ⊎ LabelHolds (label_text s) → is_passed (cond b Passed (check_text (label_text s))) ≡ true
+  text_passes : (n : ℕ) (b : Bool) → eqb n 0 ≡ b → (n ≡ 0) ⊎ LabelHolds (label_text s) → is_passed (cond b (Ok tt) (check_text (label_text s))) ≡ true
   unfolding check_text
   text_passes n true p l = refl
   text_passes n false p (inl z) = absurd (eqb-false n 0 p z)
   text_passes n false p (inr l) =
-      passed_test (check_text (label_text s)) (all_pass (text_demands (label_text s)) ((utf8_is_grammar (label_text s)).1 l.utf8_is, (accepted_label (label_text s) l, tt)))
+      passed_test (check_text (label_text s)) tt (all_pass (text_demands (label_text s)) ((utf8_is_grammar (label_text s)).1 l.utf8_is, (accepted_label (label_text s) l, tt)))
 
-  label_passes : check_label s ≡ Passed
+  label_passes : check_label s ≡ Ok tt
   unfolding check_label label_text label_padding
   label_passes =
       let n = label_length s in
       let zeros : all_zero (label_padding s) ≡ true = ap all_zero r.padding ∙ zeros_zero (4092 - (186 + n)) in
       all_pass (label_field_demands s) (le-leb n 255 r.label_length_of, (zeros, (text_passes n (eqb n 0) refl r.label, tt)))
 
-  identity_passes : check_identity s slot blocks ≡ Passed
+  identity_passes : check_identity s slot blocks ≡ Ok tt
   unfolding check_identity
   identity_passes =
       let known = three (eqb (u64_at s 128) 0) (eqb (u32_at s 136) 2) (eqb (u32_at s 140) 0) (eq-eqb (u64_at s 128) 0 r.features) (eq-eqb (u32_at s 136) 2 r.profile) (eq-eqb (u32_at s 140) 0 r.state) in
       let own = and_both (eqb (u64_at s 40) slot) (eqb (u64_at s 56) blocks) (eq-eqb (u64_at s 40) slot r.self_block) (eq-eqb (u64_at s 56) blocks r.own_blocks) in
       all_pass (identity_demands s slot blocks) (known, (own, (eq-eqb (u64_at s 144) 16384 r.reserve, tt)))
 
-  block_passes : check_block s slot blocks ≡ Passed
+  block_passes : check_block s slot blocks ≡ Ok tt
   unfolding check_block
   block_passes =
       all_pass (block_demands s slot blocks)
-      (passed_test _ place_passes, (passed_test _ envelope_passes, (passed_test _ label_passes, (passed_test _ identity_passes, tt))))
+      (passed_test _ tt place_passes, (passed_test _ tt envelope_passes, (passed_test _ tt label_passes, (passed_test _ tt identity_passes, tt))))
 
-  general_passes : check_general (part s 24 16) (u64_at s 48) (u64_at s 56) (u64_at s 176) slot blocks Disk ≡ Passed
-  unfolding check_general
+  general_passes : check_general (root_of s) slot blocks Disk ≡ Ok tt
+  unfolding root_of check_general
   general_passes =
-      let uuid : validate_uuid (part s 24 16) Disk ≡ Passed = some_uuid (part s 24 16) Disk (part_length s 24 16 (omega (arith, r.size))) r.uuid in
+      let uuid : validate_uuid (part s 24 16) Disk ≡ Ok tt = some_uuid (part s 24 16) Disk (part_length s 24 16 (omega (arith, r.size))) r.uuid in
       let kept = and_both (not (eqb (u64_at s 48) 0)) (eqb (u64_at s 56) blocks) (differs (u64_at s 48) 0 (omega (arith, r.generation))) (eq-eqb (u64_at s 56) blocks r.own_blocks) in
-      all_pass (general_demands (part s 24 16) (u64_at s 48) (u64_at s 56) (u64_at s 176) slot blocks Disk)
-      (passed_test _ (enough_blocks blocks Disk r.geometry), (passed_test _ (place_slot blocks Disk slot r.geometry r.place), (passed_test _ uuid, (kept, (lt-ltb (u64_at s 176) (groups_of blocks) r.cursor, tt)))))
+      all_pass (general_demands (root_of s) slot blocks Disk)
+      (passed_test _ tt (enough_blocks blocks Disk r.geometry), (passed_test _ tt (place_slot blocks Disk slot r.geometry r.place), (passed_test _ tt uuid, (kept, (lt-ltb (u64_at s 176) (groups_of blocks) r.cursor, tt)))))
 
-  tree_passes : (offset : ℕ) → TreeHolds (u64_at s offset) (u64_at s (offset + 8)) (u64_at s 48) blocks → validate_tree_ref (ref_at s offset) blocks Disk ≡ Passed
+  tree_passes : (offset : ℕ) → TreeHolds (u64_at s offset) (u64_at s (offset + 8)) (u64_at s 48) blocks → validate_tree_ref (ref_at s offset) blocks Disk ≡ Ok tt
   tree_passes offset t = holds_tree (ref_at s offset) blocks Disk r.geometry t.low t.high t.some
 
-  refs_pass : check_refs (ref_at s 64) (ref_at s 80) (ref_at s 96) blocks Disk ≡ Passed
-  unfolding check_refs
+  refs_pass : check_refs (root_of s) blocks Disk ≡ Ok tt
+  unfolding root_of check_refs
   refs_pass =
-      all_pass (refs_demands (ref_at s 64) (ref_at s 80) (ref_at s 96) blocks Disk)
-      (passed_test _ (tree_passes 64 r.catalog), (passed_test _ (tree_passes 80 r.allocation), (passed_test _ (tree_passes 96 r.cleanup), tt)))
+      all_pass (refs_demands (root_of s) blocks Disk)
+      (passed_test _ tt (tree_passes 64 r.catalog), (passed_test _ tt (tree_passes 80 r.allocation), (passed_test _ tt (tree_passes 96 r.cleanup), tt)))
 
-  workspace_passes : check_workspace (ref_at s 160) (u64_at s 48) blocks Disk ≡ Passed
-  unfolding check_workspace
+  workspace_passes : check_workspace (root_of s) blocks Disk ≡ Ok tt
+  unfolding root_of check_workspace
   workspace_passes =
       let bank = and_both (is_bank_root (u64_at s 160) blocks) (leb (u64_at s 168) (u64_at s 48)) (is_bank_root_lem (u64_at s 160) blocks r.geometry r.workspace) (le-leb (u64_at s 168) (u64_at s 48) r.workspace_not_newer) in
-      all_pass (workspace_demands (ref_at s 160) (u64_at s 48) blocks Disk)
-      (passed_test _ (holds_workspace (ref_at s 160) blocks Disk r.geometry r.workspace r.workspace_some), (bank, tt))
+      all_pass (workspace_demands (root_of s) blocks Disk)
+      (passed_test _ tt (holds_workspace (ref_at s 160) blocks Disk r.geometry r.workspace r.workspace_some), (bank, tt))
 
-  trees_pass : check_trees (ref_at s 64) (ref_at s 80) (ref_at s 96) (u64_at s 48) Disk ≡ Passed
-  unfolding check_trees
+  trees_pass : check_trees (root_of s) Disk ≡ Ok tt
+  unfolding root_of check_trees
   trees_pass =
       let far = three (not (eqb (u64_at s 64) (u64_at s 80))) (not (eqb (u64_at s 64) (u64_at s 96))) (not (eqb (u64_at s 80) (u64_at s 96))) (differs (u64_at s 64) (u64_at s 80) r.catalog_allocation) (differs (u64_at s 64) (u64_at s 96) r.catalog_cleanup) (differs (u64_at s 80) (u64_at s 96) r.allocation_cleanup) in
       let old = three (leb (u64_at s 72) (u64_at s 48)) (leb (u64_at s 88) (u64_at s 48)) (leb (u64_at s 104) (u64_at s 48)) (le-leb (u64_at s 72) (u64_at s 48) r.catalog.not_newer) (le-leb (u64_at s 88) (u64_at s 48) r.allocation.not_newer) (le-leb (u64_at s 104) (u64_at s 48) r.cleanup.not_newer) in
-      all_pass (trees_demands (ref_at s 64) (ref_at s 80) (ref_at s 96) (u64_at s 48) Disk) (far, (old, tt))
+      all_pass (trees_demands (root_of s) Disk) (far, (old, tt))
 
-  numbers_pass : check_numbers (u64_at s 112) (u64_at s 152) (u64_at s 120) blocks Disk ≡ Passed
-  unfolding check_numbers
+  numbers_pass : check_numbers (root_of s) blocks Disk ≡ Ok tt
+  unfolding root_of check_numbers
   numbers_pass =
       let object = and_both (leb 2 (u64_at s 112)) (leb (u64_at s 112) max_id) (le-leb 2 (u64_at s 112) r.next_object_least) (le-leb (u64_at s 112) max_id r.next_object_most) in
       let job = and_both (leb 1 (u64_at s 152)) (leb (u64_at s 152) max_id) (le-leb 1 (u64_at s 152) r.next_job_least) (le-leb (u64_at s 152) max_id r.next_job_most) in
-      all_pass (numbers_demands (u64_at s 112) (u64_at s 152) (u64_at s 120) blocks Disk) (object, (job, (le-leb (u64_at s 120) (blocks - 1027) (omega (arith, r.free)), tt)))
+      all_pass (numbers_demands (root_of s) blocks Disk) (object, (job, (le-leb (u64_at s 120) (blocks - 1027) (omega (arith, r.free)), tt)))
 
-  fields_pass : validate_root_fields (root_of s) slot blocks Disk ≡ Passed
-  unfolding validate_root_fields root_of
+  fields_pass : validate_root_fields (root_of s) slot blocks Disk ≡ Ok tt
+  unfolding validate_root_fields
   fields_pass =
       all_pass (field_demands (root_of s) slot blocks Disk)
-      (passed_test _ general_passes, (passed_test _ refs_pass, (passed_test _ workspace_passes, (passed_test _ trees_pass, (passed_test _ numbers_pass, tt)))))
+      (passed_test _ tt general_passes, (passed_test _ tt refs_pass, (passed_test _ tt workspace_passes, (passed_test _ tt trees_pass, (passed_test _ tt numbers_pass, tt)))))
 
 -- ---- the theorem
 
 pub root_exactly : RootExactly
-root_exactly s slot blocks = (
-  λ e. let h = decode_holds s slot blocks e in root_accepted s slot blocks h.0 h.1,
-  λ r. ap (λ (d : Decoded). d.answer) (decoded s slot blocks (block_passes s slot blocks r) (fields_pass s slot blocks r)),
+root_exactly s slot blocks root = (
+  λ e.
+      let h = decode_holds s slot blocks root e in
+      (root_accepted s slot blocks (passed_is (check_block s slot blocks) h.0.0) (passed_is (validate_root_fields (root_of s) slot blocks Disk) h.0.1.0), h.1),
+  λ h. decoded s slot blocks (block_passes s slot blocks h.0) (fields_pass s slot blocks h.0) ∙ ap Ok (sym h.1),
 )
-
--- an accepted root is the one that stands in the block
-pub root_read : (s : List ℕ) (slot blocks : ℕ) → (root_decode s slot blocks).answer ≡ Passed → (root_decode s slot blocks).root ≡ root_of s
-root_read s slot blocks e = let h = decode_holds s slot blocks e in ap (λ (d : Decoded). d.root) (decoded s slot blocks h.0 h.1)

@@ -1,6 +1,6 @@
 -- Demand 3 for roots: every byte of an accepted root is a field, a constant, the slot, zero, or the checksum of the rest.
 use mathlib.Core.Path.{◌≡◌, refl, sym, ap, ap₂, subst, ◌∙◌}
-use mathlib.Core.Bool.{Bool, true, false, not}
+use mathlib.Core.Bool.{Bool, true, false, not, cond}
 use mathlib.Core.List.{List, ◌++◌}
 use Prim.Native.Nat.{ℕ, ◌+◌, ◌-◌, ◌≤◌, min}
 use native.Mathlib.Omega.{arith}
@@ -8,6 +8,7 @@ use borrow.Author.Tests.{eqb-true, not-false}
 use lib.Dec.{eqb}
 use lib.ListN.{length, take, drop, replicate, drop_of_length-le}
 use lib.Seq.{take_all, take_at}
+use Rattle.std.specs.Prelude.{Option, Some, None}
 use Rattle.octets.proofs.Parts.{grow}
 use Rattle.octets.specs.Bytes.{part, Bytes}
 use Rattle.octets.specs.Number.{field}
@@ -16,13 +17,14 @@ use Rattle.octets.proofs.Digits.{field_same}
 use Rattle.crc.specs.Crc.{crc32c, zeroed, crc32c_with_zero}
 use Rattle.crc.proofs.Parts.{parts, zeroed_parts}
 use Rattle.volume.specs.declared.TreeRef.{TreeRef}
+use Rattle.root.specs.declared.Label.{Label}
 use Rattle.root.specs.declared.Root.{Root}
 use Rattle.root.specs.Label.{label_of, text_of}
 use Rattle.volume.specs.References.{ref_at}
-use Rattle.root.specs.Root.{label_length, label_text, root_of, root_decode}
+use Rattle.root.specs.Root.{label_length, has_label, label_text, label_in, root_of}
 use Rattle.roots.specs.Accept.{RootHolds}
 use Rattle.roots.specs.Agree.{LabelsAgree, FieldsAgree, RootsAgree}
-use Rattle.roots.proofs.Accept.{root_exactly, root_read}
+use Rattle.roots.proofs.Accept.{root_exactly}
 
 -- ---- labels
 
@@ -59,27 +61,25 @@ module _ (slot b c : ℕ) (s t : List ℕ) (bs : Bytes s) (bt : Bytes t) (g : Ro
   text_length_t = part_length t 186 (label_length t) (omega (arith, h.size, h.label_length_of))
 
   -- the label's length and text follow from the returned label
-  module _ (a : LabelsAgree (root_of s) (root_of t)) where
-    length_same : label_length s ≡ label_length t
-    unfolding root_of
-    length_same = go (not (eqb (label_length s) 0)) refl
-      where
-        go : (x : Bool) → not (eqb (label_length s) 0) ≡ x → label_length s ≡ label_length t
-        go true p = sym text_length ∙ sym (len_of (label_text s)) ∙ a.length_same p ∙ len_of (label_text t) ∙ text_length_t
-        go false p = none_zero (label_length s) p ∙ sym (none_zero (label_length t) (sym a.there ∙ p))
-
-    text_same : label_text s ≡ label_text t
-    unfolding root_of label_text
-    text_same = go (not (eqb (label_length s) 0)) refl
-      where
-        go : (x : Bool) → not (eqb (label_length s) 0) ≡ x → label_text s ≡ label_text t
-        go true p =
-            sym (text_of_lem (label_text s) (omega (arith, text_length, g.label_length_of)))
-            ∙ a.text_same p
-            ∙ text_of_lem (label_text t) (omega (arith, text_length_t, h.label_length_of))
-        go false p =
-            ap (λ (n : ℕ). part s 186 n) (none_zero (label_length s) p)
-            ∙ sym (ap (λ (n : ℕ). part t 186 n) (none_zero (label_length t) (sym a.there ∙ p)))
+  label_same : LabelsAgree (label_in s) (label_in t) → (label_length s ≡ label_length t) × (label_text s ≡ label_text t)
+  unfolding label_text
+  label_same l = go (has_label s) (has_label t) refl refl l
+    where
+      go : (x y : Bool) → has_label s ≡ x → has_label t ≡ y
+          → LabelsAgree (cond x (Some (label_of (label_text s))) None) (cond y (Some (label_of (label_text t))) None)
+          → (label_length s ≡ label_length t) × (label_text s ≡ label_text t)
+      go true true p q l = (
+        sym text_length ∙ sym (len_of (label_text s)) ∙ l.length_same ∙ len_of (label_text t) ∙ text_length_t,
+        sym (text_of_lem (label_text s) (omega (arith, text_length, g.label_length_of)))
+            ∙ l.text_same
+            ∙ text_of_lem (label_text t) (omega (arith, text_length_t, h.label_length_of)),
+      )
+      go true false p q l = absurd l
+      go false true p q l = absurd l
+      go false false p q l =
+          let m = none_zero (label_length s) p in
+          let n = none_zero (label_length t) q in
+          (m ∙ sym n, ap (λ (k : ℕ). part s 186 k) m ∙ sym (ap (λ (k : ℕ). part t 186 k) n))
 
   module _ (a : FieldsAgree (root_of s) (root_of t)) where
     ref_same : (o : ℕ) → o + 16 ≤ 4096 → ref_at s o ≡ ref_at t o → take o s ≡ take o t → take (o + 16) s ≡ take (o + 16) t
@@ -124,17 +124,17 @@ module _ (slot b c : ℕ) (s t : List ℕ) (bs : Bytes s) (bt : Bytes t) (g : Ro
         let s160 = grow s t 152 8 s152 (same 152 8 (omega arith) a.next_job) in
         let s176 = ref_same 160 (omega arith) a.workspace s160 in
         let s184 = grow s t 176 8 s176 (same 176 8 (omega arith) a.workspace_cursor) in
-        grow s t 184 2 s184 (same 184 2 (omega arith) (length_same a.label))
+        grow s t 184 2 s184 (same 184 2 (omega arith) (label_same a.label).0)
 
     -- 186 to 4092: the label's text, and zeros after it
     all_but_sum : take 4092 s ≡ take 4092 t
-    unfolding label_text
+    unfolding root_of label_text
     all_but_sum =
         let n = label_length s in
         let m = label_length t in
-        let e : n ≡ m = length_same a.label in
+        let e : n ≡ m = (label_same a.label).0 in
         let text : take (186 + n) s ≡ take (186 + n) t =
-        grow s t 186 n rest (text_same a.label ∙ ap (λ (k : ℕ). part t 186 k) (sym e)) in
+        grow s t 186 n rest ((label_same a.label).1 ∙ ap (λ (k : ℕ). part t 186 k) (sym e)) in
         let zeros : part s (186 + n) (4092 - (186 + n)) ≡ part t (186 + n) (4092 - (186 + n)) =
         g.padding ∙ ap (λ (k : ℕ). replicate (4092 - (186 + k)) 0) e ∙ sym h.padding ∙ ap (λ (k : ℕ). part t (186 + k) (4092 - (186 + k))) (sym e) in
         let z : 186 + n + (4092 - (186 + n)) ≡ 4092 = omega (arith, g.label_length_of) in
@@ -154,9 +154,13 @@ module _ (slot b c : ℕ) (s t : List ℕ) (bs : Bytes s) (bt : Bytes t) (g : Ro
 
 -- ---- the theorem
 
+label_self : (l : Option Label) → LabelsAgree l l
+label_self None = tt
+label_self (Some l) = record { length_same = refl; text_same = refl }
+
 self : (a : Root) → FieldsAgree a a
 self a = record {
-  label = record { there = refl; length_same = λ p. refl; text_same = λ p. refl };
+  label = label_self a.label;
   uuid = refl;
   generation = refl;
   blocks = refl;
@@ -171,11 +175,9 @@ self a = record {
 }
 
 pub roots_agree : RootsAgree
-roots_agree slot b c s t x y =
-    let p : (root_decode s slot b).root ≡ root_of s = root_read s slot b x.passed in
-    let q : (root_decode t slot c).root ≡ root_of t = root_read t slot c y.passed in (
-      λ e. subst (FieldsAgree (root_decode s slot b).root) (p ∙ ap root_of e ∙ sym q) (self (root_decode s slot b).root),
-      λ a.
-          bytes_same slot b c s t x.bytes y.bytes ((root_exactly s slot b).0 x.passed) ((root_exactly t slot c).0 y.passed)
-          (rw q at (rw p at a)),
+roots_agree slot b c s t x y p q =
+    let g = (root_exactly s slot b x).0 p.passed in
+    let h = (root_exactly t slot c y).0 q.passed in (
+      λ e. subst (FieldsAgree x) (g.1 ∙ ap root_of e ∙ sym h.1) (self x),
+      λ a. bytes_same slot b c s t p.bytes q.bytes g.0 h.0 (rw h.1 at (rw g.1 at a)),
     )

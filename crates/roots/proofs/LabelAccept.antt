@@ -8,8 +8,7 @@ use native.Mathlib.Omega.{arith}
 use borrow.Author.Tests.{le-leb, lt-leb, leb-true, eq-eqb, ne_eqb, not-true}
 use lib.Dec.{leb, eqb, leb-zero}
 use lib.ListN.{length}
-use Rattle.error.specs.declared.Check.TheVariants.{Passed}
-use Rattle.error.specs.Demand.{outcome}
+use Rattle.error.proofs.Exactly.{given_exactly}
 use Rattle.error.proofs.Tests.{and_left, and_right, and_both, and_first, and_second}
 use Rattle.octets.specs.Bytes.{same_bytes}
 use Rattle.octets.proofs.Same.{same_is, same_self}
@@ -19,7 +18,7 @@ use Rattle.utf8.specs.Reading.{◌from◌to◌, read}
 use Rattle.utf8.specs.Plain.{allowed, plain}
 use Rattle.utf8.proofs.Grammar.{utf8_is_grammar}
 use Rattle.utf8.proofs.Plain.{plain_char}
-use Rattle.root.specs.Label.{dot, dots, is_label, label_new}
+use Rattle.root.specs.Label.{dot, dots, is_label, label_of, label_demands, label_new}
 use Rattle.roots.specs.Accept.{HasCharacter, MayStand, LabelHolds, LabelExactly}
 use Rattle.roots.specs.Accept.HasCharacter.{here, later}
 use Rattle.root.proofs.Text.{tests_hold, holds_tests}
@@ -96,12 +95,8 @@ accepted_label s a =
     }
     )
 
--- `Label::new` passes exactly where the test holds
-passes : (s : List ℕ) (t : Bool) → is_label s ≡ t → (label_new s).answer ≡ Passed → t ≡ true
-unfolding label_new outcome
-passes s true p e = refl
-passes s false p e = let q : (label_new s).answer ≡ Passed = e in cc
-
 pub label_exactly : LabelExactly
-unfolding label_new outcome
-label_exactly s = (λ e. label_accepted s (passes s (is_label s) refl e), λ a. rw (accepted_label s a))
+unfolding label_new
+label_exactly s l =
+    let given = given_exactly (label_demands s) (label_of s) l in
+    (λ e. let h = given.0 e in (label_accepted s h.0.0, h.1), λ h. given.1 ((accepted_label s h.0, tt), h.1))

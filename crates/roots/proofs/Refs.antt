@@ -9,7 +9,7 @@ use borrow.Author.Tests.{le-leb, leb-true, lt-ltb, ltb-true, ne_eqb, eqb-true, e
 use lib.Dec.{leb, ltb, eqb}
 use lib.ListN.{length, replicate}
 use Rattle.error.specs.declared.Validation.{Validation}
-use Rattle.error.specs.declared.Check.TheVariants.{Passed}
+use Rattle.std.specs.Prelude.{Ok}
 use Rattle.error.proofs.Exactly.{all_hold, all_pass, passed_test}
 use Rattle.error.proofs.Tests.{and_left, and_right, and_both, or_second, one_of, is_one_of_lem, not_yes}
 use Rattle.octets.specs.Bytes.{all_zero}
@@ -41,24 +41,24 @@ zeros_zero (suc n) = zeros_zero n
 -- ---- the volume's size, slots, UUIDs
 
 module _ (blocks : ℕ) (mode : Validation) where
-  pub enough_blocks : 1024 ≤ blocks → validate_blocks blocks mode ≡ Passed
+  pub enough_blocks : 1024 ≤ blocks → validate_blocks blocks mode ≡ Ok tt
   unfolding validate_blocks
   enough_blocks h = all_pass _ (le-leb 1024 blocks h, tt)
 
-  pub slot_place : (slot : ℕ) → validate_root_slot slot blocks mode ≡ Passed → (slot ≡ 256) ⊎ (slot ≡ blocks - 257)
+  pub slot_place : (slot : ℕ) → validate_root_slot slot blocks mode ≡ Ok tt → (slot ≡ 256) ⊎ (slot ≡ blocks - 257)
   unfolding validate_root_slot is_root_slot
   slot_place slot e = one_of slot 256 (blocks - 257) (all_hold (root_slot_demands slot blocks mode) e).1.0
 
-  pub place_slot : (slot : ℕ) → 1024 ≤ blocks → (slot ≡ 256) ⊎ (slot ≡ blocks - 257) → validate_root_slot slot blocks mode ≡ Passed
+  pub place_slot : (slot : ℕ) → 1024 ≤ blocks → (slot ≡ 256) ⊎ (slot ≡ blocks - 257) → validate_root_slot slot blocks mode ≡ Ok tt
   unfolding validate_root_slot is_root_slot
   place_slot slot h p =
-      all_pass (root_slot_demands slot blocks mode) (passed_test (validate_blocks blocks mode) (enough_blocks h), (is_one_of_lem slot 256 (blocks - 257) p, tt))
+      all_pass (root_slot_demands slot blocks mode) (passed_test (validate_blocks blocks mode) tt (enough_blocks h), (is_one_of_lem slot 256 (blocks - 257) p, tt))
 
-pub uuid_some : (uuid : List ℕ) (mode : Validation) → validate_uuid uuid mode ≡ Passed → uuid ≡ replicate 16 0 → ⊥
+pub uuid_some : (uuid : List ℕ) (mode : Validation) → validate_uuid uuid mode ≡ Ok tt → uuid ≡ replicate 16 0 → ⊥
 unfolding validate_uuid
 uuid_some uuid mode e z = false≢true (sym (not-true (all_zero uuid) (all_hold _ e).0) ∙ ap all_zero z ∙ zeros_zero 16)
 
-pub some_uuid : (uuid : List ℕ) (mode : Validation) → length uuid ≡ 16 → (uuid ≡ replicate 16 0 → ⊥) → validate_uuid uuid mode ≡ Passed
+pub some_uuid : (uuid : List ℕ) (mode : Validation) → length uuid ≡ 16 → (uuid ≡ replicate 16 0 → ⊥) → validate_uuid uuid mode ≡ Ok tt
 unfolding validate_uuid
 some_uuid uuid mode l n = all_pass _ (never_holds (all_zero uuid) (λ e. n (zeros_are uuid 16 l e)), tt)
 
@@ -75,7 +75,7 @@ module _ (ref : TreeRef) (blocks : ℕ) (mode : Validation) where
   born = not (eqb ref.generation 0)
 
   -- a tree's reference
-  pub tree_holds : validate_tree_ref ref blocks mode ≡ Passed → (512 ≤ ref.block) × (ref.block < blocks - 512) × (1 ≤ ref.generation)
+  pub tree_holds : validate_tree_ref ref blocks mode ≡ Ok tt → (512 ≤ ref.block) × (ref.block < blocks - 512) × (1 ≤ ref.generation)
   unfolding validate_tree_ref is_nonreserved_block
   tree_holds e =
       let t = (all_hold (tree_ref_demands ref blocks mode) e).1.0 in
@@ -88,14 +88,14 @@ module _ (ref : TreeRef) (blocks : ℕ) (mode : Validation) where
         positive ref.generation (and_left born (low && some && high) t),
       )
 
-  pub holds_tree : 1024 ≤ blocks → 512 ≤ ref.block → ref.block < blocks - 512 → 1 ≤ ref.generation → validate_tree_ref ref blocks mode ≡ Passed
+  pub holds_tree : 1024 ≤ blocks → 512 ≤ ref.block → ref.block < blocks - 512 → 1 ≤ ref.generation → validate_tree_ref ref blocks mode ≡ Ok tt
   unfolding validate_tree_ref is_nonreserved_block
   holds_tree h l u g =
       let n : (born && is_nonreserved_block ref.block blocks) ≡ true = rw (is_positive ref.generation g, le-leb 512 ref.block l, le-leb 1024 blocks h, lt-ltb ref.block (blocks - 512) u) in
-      all_pass (tree_ref_demands ref blocks mode) (passed_test (validate_blocks blocks mode) (enough_blocks blocks mode h), (n, tt))
+      all_pass (tree_ref_demands ref blocks mode) (passed_test (validate_blocks blocks mode) tt (enough_blocks blocks mode h), (n, tt))
 
   -- the workspace's: a generation; and a bank root is a bank block
-  pub workspace_holds : validate_workspace_ref ref blocks mode ≡ Passed → 1 ≤ ref.generation
+  pub workspace_holds : validate_workspace_ref ref blocks mode ≡ Ok tt → 1 ≤ ref.generation
   unfolding validate_workspace_ref
   workspace_holds e = positive ref.generation (and_left born (is_bank_block ref.block blocks) (all_hold (workspace_ref_demands ref blocks mode) e).1.0)
 
@@ -106,11 +106,11 @@ module _ (ref : TreeRef) (blocks : ℕ) (mode : Validation) where
       rw (le-leb 1024 blocks h)
       (or_second (leb 32 ref.block && leb ref.block 95) (leb (blocks - 96) ref.block && leb ref.block (blocks - 33)) (and_both (leb (blocks - 96) ref.block) (leb ref.block (blocks - 33)) (le-leb (blocks - 96) ref.block (omega arith)) (le-leb ref.block (blocks - 33) (omega arith))))
 
-  pub holds_workspace : 1024 ≤ blocks → (ref.block ≡ 32) ⊎ (ref.block ≡ blocks - 96) → 1 ≤ ref.generation → validate_workspace_ref ref blocks mode ≡ Passed
+  pub holds_workspace : 1024 ≤ blocks → (ref.block ≡ 32) ⊎ (ref.block ≡ blocks - 96) → 1 ≤ ref.generation → validate_workspace_ref ref blocks mode ≡ Ok tt
   unfolding validate_workspace_ref
   holds_workspace h p g =
       all_pass (workspace_ref_demands ref blocks mode)
-      (passed_test (validate_blocks blocks mode) (enough_blocks blocks mode h), (and_both born (is_bank_block ref.block blocks) (is_positive ref.generation g) (bank_block h p), tt))
+      (passed_test (validate_blocks blocks mode) tt (enough_blocks blocks mode h), (and_both born (is_bank_block ref.block blocks) (is_positive ref.generation g) (bank_block h p), tt))
 
 pub bank_root : (block blocks : ℕ) → is_bank_root block blocks ≡ true → (block ≡ 32) ⊎ (block ≡ blocks - 96)
 unfolding is_bank_root

@@ -1,14 +1,15 @@
 -- What is accepted, as plain lists of conditions (01, section 3); no order is in them. That they say what the chains of checks say is
 -- proved in proofs/LabelAccept and proofs/Accept.
-use Rattle.std.specs.Prelude.{ℕ, ◌+◌, ◌-◌, ◌^◌, ◌≤◌, ◌<◌, ◌≡◌, ◌↔◌, ◌⊎◌, List, ◌++◌, length, replicate}
-use Rattle.error.specs.declared.Check.TheVariants.{Passed}
+use Rattle.std.specs.Prelude.{ℕ, ◌+◌, ◌-◌, ◌^◌, ◌≤◌, ◌<◌, ◌≡◌, ◌↔◌, ◌⊎◌, List, ◌++◌, length, replicate, Ok}
 use Rattle.octets.specs.Bytes.{part}
 use Rattle.octets.specs.Number.{u16_at, u32_at, u64_at}
 use Rattle.crc.specs.Crc.{crc32c_with_zero}
 use Rattle.volume.specs.Groups.{groups_of}
 use Rattle.utf8.specs.Rfc3629.{Utf8-char, Utf8, number}
-use Rattle.root.specs.Label.{dot, dots, label_new}
-use Rattle.root.specs.Root.{magic, root_decode}
+use Rattle.root.specs.declared.Label.{Label}
+use Rattle.root.specs.declared.Root.{Root}
+use Rattle.root.specs.Label.{dot, dots, label_of, label_new}
+use Rattle.root.specs.Root.{magic, root_of, root_decode}
 
 -- ---- labels
 
@@ -32,9 +33,9 @@ pub record LabelHolds (text : List ℕ) : Type 0 where
   pub no_dots : text ≡ dots → ⊥
   pub characters : (p : ℕ) → HasCharacter p text → MayStand p
 
--- `Label::new` accepts a text exactly when these hold
+-- `Label::new` accepts a text exactly when these hold, and gives the label that holds it
 abbrev pub LabelExactly : Type 0
-LabelExactly = (text : List ℕ) → ((label_new text).answer ≡ Passed) ↔ LabelHolds text
+LabelExactly = (text : List ℕ) (label : Label) → (label_new text ≡ Ok label) ↔ (LabelHolds text × (label ≡ label_of text))
 
 -- ---- roots
 
@@ -91,6 +92,6 @@ pub record RootHolds (s : List ℕ) (slot blocks : ℕ) : Type 0 where
   pub next_job_most : u64_at s 152 ≤ 2 ^ 63 - 1
   pub free : u64_at s 120 + 1027 ≤ blocks
 
--- `Root::decode` accepts a block exactly when these hold
+-- `Root::decode` accepts a block exactly when these hold, and gives the root that stands in it
 abbrev pub RootExactly : Type 0
-RootExactly = (s : List ℕ) (slot blocks : ℕ) → ((root_decode s slot blocks).answer ≡ Passed) ↔ RootHolds s slot blocks
+RootExactly = (s : List ℕ) (slot blocks : ℕ) (root : Root) → (root_decode s slot blocks ≡ Ok root) ↔ (RootHolds s slot blocks × (root ≡ root_of s))

@@ -1,26 +1,32 @@
 -- Demand 3 for roots (01, "What demand 3 compares"): two roots accepted in one slot are the same 4,096 bytes exactly when every returned
 -- field agrees. The proof is proofs/Agree.
-use Rattle.std.specs.Prelude.{ℕ, ◌≡◌, true, ◌↔◌, List}
-use Rattle.error.specs.declared.Check.TheVariants.{Passed}
+use Rattle.std.specs.Prelude.{ℕ, ◌≡◌, ◌↔◌, List, Option, Some, None, Ok}
 use Rattle.octets.specs.Bytes.{Bytes}
 use Rattle.root.specs.Label.{text_of}
+use Rattle.root.specs.declared.Label.{Label}
 use Rattle.root.specs.declared.Root.{Root}
 use Rattle.root.specs.Root.{root_decode}
 
--- `Root::decode` accepts the bytes with these arguments
-pub record Accepted (s : List ℕ) (slot blocks : ℕ) : Type 0 where
+-- `Root::decode` accepts the bytes with these arguments, and gives this root
+pub record Accepted (s : List ℕ) (slot blocks : ℕ) (root : Root) : Type 0 where
   pub bytes : Bytes s
-  pub passed : (root_decode s slot blocks).answer ≡ Passed
+  pub passed : root_decode s slot blocks ≡ Ok root
 
--- none only with none; where there are labels, they agree in length and text
-pub record LabelsAgree (a b : Root) : Type 0 where
-  pub there : a.has_label ≡ b.has_label
-  pub length_same : a.has_label ≡ true → a.label.len ≡ b.label.len
-  pub text_same : a.has_label ≡ true → text_of a.label ≡ text_of b.label
+-- two labels agree in length and text
+pub record LabelAgrees (a b : Label) : Type 0 where
+  pub length_same : a.len ≡ b.len
+  pub text_same : text_of a ≡ text_of b
+
+-- none only with none
+abbrev pub LabelsAgree : Option Label → Option Label → Type 0
+LabelsAgree None None = Unit
+LabelsAgree None (Some b) = ⊥
+LabelsAgree (Some a) None = ⊥
+LabelsAgree (Some a) (Some b) = LabelAgrees a b
 
 -- every returned field agrees
 pub record FieldsAgree (a b : Root) : Type 0 where
-  pub label : LabelsAgree a b
+  pub label : LabelsAgree a.label b.label
   pub uuid : a.uuid ≡ b.uuid
   pub generation : a.generation ≡ b.generation
   pub blocks : a.blocks ≡ b.blocks
@@ -36,5 +42,5 @@ pub record FieldsAgree (a b : Root) : Type 0 where
 -- the slot is the same; the blocks argument of each call may be another
 abbrev pub RootsAgree : Type 0
 RootsAgree =
-    (slot blocks₁ blocks₂ : ℕ) (s t : List ℕ) → Accepted s slot blocks₁ → Accepted t slot blocks₂
-    → (s ≡ t) ↔ FieldsAgree (root_decode s slot blocks₁).root (root_decode t slot blocks₂).root
+    (slot blocks₁ blocks₂ : ℕ) (s t : List ℕ) (a b : Root) → Accepted s slot blocks₁ a → Accepted t slot blocks₂ b
+    → (s ≡ t) ↔ FieldsAgree a b

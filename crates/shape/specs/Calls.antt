@@ -1,9 +1,9 @@
 -- The calls of docs/PROBE.md: the numbers and strings that each takes, in their order.
-use Rattle.std.specs.Prelude.{ℕ, ◌+◌, ◌*◌, ◌^◌, ◌-◌, cond, List, [], ◌∷◌, ◌++◌, eqb, length, replicate}
+use Rattle.std.specs.Prelude.{ℕ, ◌+◌, ◌*◌, ◌^◌, ◌-◌, cond, List, [], ◌∷◌, ◌++◌, eqb, length, replicate, Err, count_by, not}
 use Rattle.octets.specs.Bytes.{byte_at}
-use Rattle.shape.specs.declared.Front.{Front}
-use Rattle.shape.specs.declared.Front.TheVariants.{Short, Outside}
-use Rattle.shape.specs.Call.{Item, number_from, string_from, reads}
+use Rattle.shape.specs.declared.Item.{Item}
+use Rattle.shape.specs.declared.Fault.TheVariants.{Short, Outside}
+use Rattle.shape.specs.Call.{Front, number_from, string_from, reads}
 
 -- any number of 64 bits
 abbrev pub any_number : Item
@@ -118,17 +118,16 @@ calls =
 
 -- a call that takes nothing is unknown
 abbrev pub known_front : List Item → List ℕ → Front
-known_front [] input = Outside
+known_front [] input = Err Outside
 known_front (i ∷ items) input = reads (i ∷ items) input 1
 
 -- the call at the front of the input, from the byte behind its number on
 unfoldable pub call_front : List ℕ → Front
-call_front input = cond (eqb (length input) 0) Short (known_front (items_in (byte_at input 0) calls) input)
+call_front input = cond (eqb (length input) 0) (Err Short) (known_front (items_in (byte_at input 0) calls) input)
 
 -- how many of them are numbers
 abbrev pub numbers_among : List Item → ℕ
-numbers_among [] = 0
-numbers_among (i ∷ items) = cond i.is_string (numbers_among items) (1 + numbers_among items)
+numbers_among items = count_by (λ i. not i.is_string) items
 
 -- where a call's strings start: behind its own byte and eight bytes for each number
 unfoldable pub strings_at : ℕ → ℕ

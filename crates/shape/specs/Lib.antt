@@ -1,4 +1,3 @@
 pub mod Call
 pub mod Calls
-pub mod Inside
 pub mod Within

@@ -1,8 +1,7 @@
 -- Where a call ends, plainly.
-use Rattle.std.specs.Prelude.{ℕ, ◌≤◌, ◌<◌, ◌≡◌, List, length}
-use Rattle.shape.specs.declared.Front.TheVariants.{Whole}
+use Rattle.std.specs.Prelude.{ℕ, ◌≤◌, ◌<◌, ◌≡◌, List, length, Ok}
 use Rattle.shape.specs.Calls.{call_front}
 
 -- a whole call has a byte at least, and ends within the input: who goes on behind it reads on, and no further than there is input
 abbrev pub CallsWithin : Type 0
-CallsWithin = (input : List ℕ) (end : ℕ) → call_front input ≡ Whole end → (0 < end) × (end ≤ length input)
+CallsWithin = (input : List ℕ) (end : ℕ) → call_front input ≡ Ok end → (0 < end) × (end ≤ length input)

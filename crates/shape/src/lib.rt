@@ -1,261 +1,244 @@
 // The numbers and strings of a call, and their limits: where a call on standard input ends.
 #![tactic(auto)]
 
-ghost use Rattle.std.specs.Prelude.{◌≡◌, ◌≤◌};
-ghost use Rattle.shape.specs.Call.{in_range, read_bytes, read_number, read_string, reads};
-ghost use Rattle.shape.specs.Calls.{items_in, calls, call_front, strings_at};
-ghost use Rattle.shape.specs.Inside.{least_of, most_of, range_of, item_at, items_of, items_of_all, digits_in, IsRow, AreRows};
+ghost use Rattle.std.specs.Prelude.{◌≡◌, ◌≤◌, length};
+ghost use Rattle.shape.specs.Call.{in_range, read_bytes, read_number, read_string, read_item, reads};
+ghost use Rattle.shape.specs.Calls.{items_in, calls, call_front, numbers_among, strings_at};
 
-// What stands at the front of the input.
-#[derive(Clone, Copy)]
-pub enum Front {
-    // A whole call, or a part of it, and where that ends.
-    Whole(usize),
+// Why no whole call, or no part of it, stands at the front of the input.
+#[derive(Clone, Copy, Debug, PartialEq, Eq)]
+pub enum Fault {
     // The input ends inside it.
     Short,
     // It is unknown or outside the limits.
     Outside,
 }
 
-// A row for each call from 0 on, 0 where there is none; call 41 has rows of its own. A row is read from the right: seven digits for
-// the numbers, then four for the strings, 0 for none. A digit says what a number may be, or how long a string: 1 anything, 2 below
-// 2^32, 3 at most 65,535, 4 from 1 to 4, 6 at most 1,000,000, 8 at most 80,000, a 16, b at most 255, c 255, e at most 4,096, f 0 or 1.
-const ROWS: [u64; 44] = [
-    0x0000_0000000,
-    0x0008_0000002,
-    0x0008_0000000,
-    0x0008_0000011,
-    0x0000_0000062,
-    0x008a_0000011,
-    0x0008_0000000,
-    0x0008_0000000,
-    0x0008_0000031,
-    0x0008_0000031,
-    0x0008_0000031,
-    0x0088_0000000,
-    0x0000_0000011,
-    0x0000_0000011,
-    0x0000_0000011,
-    0x0000_0000011,
-    0x0000_0000001,
-    0x0000_000f111,
-    0x0000_00f1411,
-    0x0000_0000f11,
-    0x0000_0000f21,
-    0x0000_00000f1,
-    0x0008_000000f,
-    0x0008_00000f1,
-    0x0008_000000f,
-    0x0088_00000f1,
-    0x0088_000000f,
-    0x0088_000f114,
-    0x0088_000f114,
-    0x0088_0000114,
-    0x0008_0000001,
-    0x0008_0000000,
-    0x0008_0000000,
-    0x0008_0000000,
-    0x0008_0000011,
-    0x0088_0001111,
-    0x008a_01b1411,
-    0x008a_00b1411,
-    0x0008_0000000,
-    0x0088_00003e1,
-    0x0008_0000001,
-    0x0000_0000000,
-    0x0008_11f11b4,
-    0x088a_e1b1411,
+// A number or a string of a call, and the limits of the number or of the string's length, both included.
+#[derive(Clone, Copy)]
+struct Item {
+    is_string: bool,
+    least: u64,
+    most: u64,
+}
+
+// Any number of 64 bits.
+const ANY: Item = Item {
+    is_string: false,
+    least: 0,
+    most: u64::MAX,
+};
+
+// A register, nanoseconds: below 2^32.
+const WORD: Item = Item {
+    is_string: false,
+    least: 0,
+    most: 0xFFFF_FFFF,
+};
+
+// A reason, a scratch's fill.
+const SHORT: Item = Item {
+    is_string: false,
+    least: 0,
+    most: 65_535,
+};
+
+// A level, a page's kind, a label's length.
+const BYTE: Item = Item {
+    is_string: false,
+    least: 0,
+    most: 255,
+};
+
+// Present, has label, a mode.
+const FLAG: Item = Item {
+    is_string: false,
+    least: 0,
+    most: 1,
+};
+
+// A tree kind.
+const KIND: Item = Item {
+    is_string: false,
+    least: 1,
+    most: 4,
+};
+
+// The count of zero bytes in call 4.
+const ZEROS: Item = Item {
+    is_string: false,
+    least: 0,
+    most: 1_000_000,
+};
+
+// The entries of a scratch.
+const ENTRIES: Item = Item {
+    is_string: false,
+    least: 0,
+    most: 4_096,
+};
+
+// A byte string.
+const STRING: Item = Item {
+    is_string: true,
+    least: 0,
+    most: 80_000,
+};
+
+// A UUID.
+const UUID: Item = Item {
+    is_string: true,
+    least: 16,
+    most: 16,
+};
+
+// A label's bytes in call 41.
+const LABEL: Item = Item {
+    is_string: true,
+    least: 255,
+    most: 255,
+};
+
+// Call 41: for each of two roots present, has label, label length and 14 numbers more; then UUID and label of each.
+const ROOTS: [Item; 38] = [
+    FLAG, FLAG, BYTE, ANY, ANY, ANY, ANY, ANY, ANY, ANY, ANY, ANY, ANY, ANY, ANY, ANY, ANY, FLAG,
+    FLAG, BYTE, ANY, ANY, ANY, ANY, ANY, ANY, ANY, ANY, ANY, ANY, ANY, ANY, ANY, ANY, UUID, LABEL,
+    UUID, LABEL,
 ];
 
-fn rows() -> [u64; 44]
-    ensures { AreRows result }
+// What a call takes, by the table of docs/PROBE.md; nothing where it has no row.
+#[tactic(auto, unfolding(crate::specs::Calls::items_in, crate::specs::Calls::calls))]
+fn items_in(call: u8) -> &'static [Item]
+    ensures all { result.now ≡ items_in call calls }
+    ensures few { length result.now ≤ 38 }
 {
-    ROWS
-}
-
-fn row_of(call: u8) -> u64
-    ensures { IsRow call result }
-{
-    if call < 44 {
-        let rows = rows();
-        rows[call as usize]
-    } else {
-        0
+    match call {
+        1 => &[WORD, STRING],
+        2 | 6 | 7 => &[STRING],
+        3 | 34 => &[ANY, ANY, STRING],
+        4 => &[WORD, ZEROS],
+        5 => &[ANY, ANY, UUID, STRING],
+        8..=10 => &[ANY, SHORT, STRING],
+        11 => &[STRING, STRING],
+        12..=15 => &[ANY, ANY],
+        16 => &[ANY],
+        17 => &[ANY, ANY, ANY, FLAG],
+        18 => &[ANY, ANY, KIND, ANY, FLAG],
+        19 => &[ANY, ANY, FLAG],
+        20 => &[ANY, WORD, FLAG],
+        21 => &[ANY, FLAG],
+        22 | 24 => &[FLAG, STRING],
+        23 => &[ANY, FLAG, STRING],
+        25 => &[ANY, FLAG, STRING, STRING],
+        26 => &[FLAG, STRING, STRING],
+        27 | 28 => &[KIND, ANY, ANY, FLAG, STRING, STRING],
+        29 => &[KIND, ANY, ANY, STRING, STRING],
+        30 | 40 => &[ANY, STRING],
+        31..=33 | 38 => &[STRING],
+        35 => &[ANY, ANY, ANY, ANY, STRING, STRING],
+        36 => &[ANY, ANY, KIND, ANY, BYTE, ANY, UUID, STRING],
+        37 => &[ANY, ANY, KIND, ANY, BYTE, UUID, STRING],
+        39 => &[ANY, ENTRIES, SHORT, STRING, STRING],
+        41 => &ROOTS,
+        42 => &[KIND, BYTE, ANY, ANY, FLAG, ANY, ANY, STRING],
+        43 => &[
+            ANY, ANY, KIND, ANY, BYTE, ANY, ENTRIES, UUID, STRING, STRING,
+        ],
+        _ => &[],
     }
 }
 
-fn least(digit: u64) -> u64
-    ensures { result ≡ least_of digit }
+// Whether a number, or a string's length, is within its limits.
+fn is_allowed(item: Item, value: u64) -> bool
+    ensures { result ≡ in_range item value }
 {
-    match digit {
-        4 => 1,
-        0xa => 16,
-        0xc => 255,
-        _ => 0,
-    }
-}
-
-fn most(digit: u64) -> u64
-    ensures { result ≡ most_of digit }
-{
-    match digit {
-        2 => 0xFFFF_FFFF,
-        3 => 65_535,
-        4 => 4,
-        6 => 1_000_000,
-        8 => 80_000,
-        0xa => 16,
-        0xb => 255,
-        0xc => 255,
-        0xe => 4_096,
-        0xf => 1,
-        _ => 0xFFFF_FFFF_FFFF_FFFF,
-    }
-}
-
-fn is_allowed(digit: u64, value: u64) -> bool
-    ensures { result ≡ in_range (range_of digit) value }
-{
-    (least(digit) <= value) & (value <= most(digit))
+    (item.least..=item.most).contains(&value)
 }
 
 // The place behind so many bytes from a place of the input on.
-fn read_bytes(input: &[u8], at: usize, length: usize) -> Front
+#[tactic(auto, unfolding(crate::specs::Call::read_bytes))]
+fn read_bytes(input: &[u8], at: usize, length: usize) -> Result<usize, Fault>
     ensures { result ≡ read_bytes input.now at «length» }
 {
-    if input.len() < length {
-        return Front::Short;
+    let end = at.checked_add(length).ok_or(Fault::Short)?;
+    if input.len() < end {
+        return Err(Fault::Short);
     }
-    if input.len() - length < at {
-        return Front::Short;
-    }
-    Front::Whole(at + length)
+    Ok(end)
 }
 
-fn read_number(digit: u64, input: &[u8], at: usize) -> Front
-    ensures { result ≡ read_number (range_of digit) input.now at }
+// A number: eight bytes.
+#[tactic(auto, unfolding(crate::specs::Call::read_number))]
+fn read_number(item: Item, input: &[u8], at: usize) -> Result<usize, Fault>
+    ensures { result ≡ read_number item input.now at }
 {
-    let front = read_bytes(input, at, 8);
-    let Front::Whole(_) = front else {
-        return front;
-    };
-    if !is_allowed(digit, octets::u64_at(input, at)) {
-        return Front::Outside;
+    let end = read_bytes(input, at, 8)?;
+    if !is_allowed(item, octets::u64_at(input, at)) {
+        return Err(Fault::Outside);
     }
-    front
+    Ok(end)
 }
 
 // A string's length, and as many bytes.
-fn read_string(digit: u64, input: &[u8], at: usize) -> Front
-    ensures { result ≡ read_string (range_of digit) input.now at }
+#[tactic(auto, unfolding(crate::specs::Call::read_string))]
+fn read_string(item: Item, input: &[u8], at: usize) -> Result<usize, Fault>
+    ensures { result ≡ read_string item input.now at }
 {
-    let front = read_bytes(input, at, 4);
-    let Front::Whole(start) = front else {
-        return front;
-    };
+    let start = read_bytes(input, at, 4)?;
     let length = octets::u32_at(input, at);
-    if !is_allowed(digit, length as u64) {
-        return Front::Outside;
+    if !is_allowed(item, length as u64) {
+        return Err(Fault::Outside);
     }
     read_bytes(input, start, length as usize)
 }
 
-fn read_one(i: usize, digit: u64, input: &[u8], at: usize) -> Front
-    ensures { result ≡ reads (item_at i digit) input.now at }
+// A number or a string.
+fn read_item(item: Item, input: &[u8], at: usize) -> Result<usize, Fault>
+    ensures { result ≡ read_item item input.now at }
 {
-    if digit == 0 {
-        return Front::Whole(at);
+    if item.is_string {
+        return read_string(item, input, at);
     }
-    if i < 7 {
-        return read_number(digit, input, at);
-    }
-    read_string(digit, input, at)
+    read_number(item, input, at)
 }
 
-// The numbers and strings of a row, from a place on.
-fn read_row(row: u64, input: &[u8], start: usize) -> Front
-    ensures { result ≡ reads (items_of row) input.now start }
+// Numbers and strings, one after the other.
+#[tactic(auto, using(crate::proofs::Reading::items_on, crate::proofs::Reading::items_off, crate::proofs::Reading::items_end))]
+fn reads(items: &[Item], input: &[u8], start: usize) -> Result<usize, Fault>
+    ensures { result ≡ reads items.now input.now start }
 {
     let mut at = start;
-    let mut rest = row;
-    for i in 0..11 {
-        let front = read_one(i, rest % 16, input, at);
-        let Front::Whole(end) = front else {
-            return front;
-        };
-        at = end;
-        rest = rest / 16;
+    for &item in items {
+        at = read_item(item, input, at)?;
     }
-    Front::Whole(at)
-}
-
-// Those of several rows, one after the other.
-fn read_rows(rows: &[u64], input: &[u8], start: usize) -> Front
-    ensures { result ≡ reads (items_of_all rows.now) input.now start }
-{
-    let mut at = start;
-    for i in 0..rows.len() {
-        let front = read_row(rows[i], input, at);
-        let Front::Whole(end) = front else {
-            return front;
-        };
-        at = end;
-    }
-    Front::Whole(at)
-}
-
-// Call 41 has the rows of 34 numbers: present, has label, label length and 14 more, for each of two roots; then four strings.
-fn read_roots(input: &[u8]) -> Front
-    ensures { result ≡ reads (items_in 41 calls) input.now 1 }
-{
-    let rows = [
-        0x111_1bff,
-        0x111_1111,
-        0x1bf_f111,
-        0x111_1111,
-        0xcaca_011_1111,
-    ];
-    read_rows(&rows, input, 1)
+    Ok(at)
 }
 
 // The call at the front of the input.
-pub fn read_call(input: &[u8]) -> Front
+pub fn read_call(input: &[u8]) -> Result<usize, Fault>
     ensures { result ≡ call_front input.now }
 {
-    if input.len() == 0 {
-        return Front::Short;
+    let Some(&call) = input.first() else {
+        return Err(Fault::Short);
+    };
+    match items_in(call) {
+        [] => Err(Fault::Outside),
+        items => reads(items, input, 1),
     }
-    let call = input[0];
-    if call == 41 {
-        return read_roots(input);
-    }
-    let row = row_of(call);
-    if row == 0 {
-        return Front::Outside;
-    }
-    read_row(row, input, 1)
 }
 
-// How many digits stand in front of the zeros: at most seven.
-fn digits(row: u64) -> usize
-    ensures { (result ≡ digits_in 7 row) × (result ≤ 7) }
+// How many of the items are numbers.
+fn numbers_among(items: &[Item]) -> usize
+    ensures all { result ≡ numbers_among items.now }
+    ensures few { result ≤ length items.now }
 {
-    let mut rest = row;
-    for i in 0..7 {
-        if rest == 0 {
-            return i;
-        }
-        rest = rest / 16;
-    }
-    7
+    items.iter().filter(|item| !item.is_string).count()
 }
 
 // Where a call's strings start: behind its numbers.
+#[tactic(auto, unfolding(crate::specs::Calls::strings_at))]
 pub fn strings_at(call: u8) -> usize
     ensures { result ≡ strings_at call }
 {
-    if call == 41 {
-        return 273;
-    }
-    1 + 8 * digits(row_of(call) % 0x1000_0000)
+    1 + 8 * numbers_among(items_in(call))
 }

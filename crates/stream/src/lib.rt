@@ -2,115 +2,52 @@
 // Nobody here handles a signal, so none interrupts a call.
 #![tactic(auto)]
 
-ghost use Rattle.std.specs.Prelude.{◌≡◌, ◌<◌, ◌^◌, length, IfOk, OnOk};
-ghost use Rattle.stream.specs.Stream.{answer_of, read_of, ReadBehind, FilledBy, Says, Sent, StartsAt};
+ghost use Rattle.std.specs.Prelude.{◌≡◌, length, OnOk};
+ghost use Rattle.stream.specs.Stream.{read_of, ReadBehind, FilledBy, Says, Sent, StartsAt};
 
 use std::io;
 use std::io::{Read as _, Write as _};
 
-// A reader, and why the last read from it that failed did.
-#[derive(Drop)]
-pub struct Reader<R> {
-    pub from: R,
-    pub why: io::Error,
-}
-
-// What came of a read behind the bytes that a buffer has already.
-#[derive(Drop)]
-pub enum Read {
-    // It has so many now.
-    Has(usize),
-    // The input has ended.
-    Ended,
-    // The read failed; the reader says why.
-    Failed,
-    // There is no room for another byte, and nothing was read.
-    Full,
-}
-
-// What came of filling a buffer.
-#[derive(Drop)]
-pub enum Filled {
-    Whole,
-    // The input ended behind so many bytes.
-    Ended(usize),
-    // A read failed; the reader says why.
-    Failed,
-}
-
-// Where the next line starts in a buffer of lines, or that there is none.
-#[derive(Drop)]
-pub enum Next {
-    At(usize),
-    Stop,
-}
-
-// The system's answer to a read, as a number: how many bytes came, or -1 where it failed.
-fn answer(got: &io::Result<usize>) -> isize
-    requires { IfOk got.now (λ n. n < 2 ^ 63) }
-    ensures { result ≡ answer_of got.now }
-{
-    match got {
-        Ok(came) => *came as isize,
-        Err(_) => -1,
-    }
-}
-
 // What the system's answer to a read behind the first `have` of `size` bytes means.
-fn read_of(got: isize, have: usize, size: usize) -> Read
+#[tactic(auto, unfolding(crate::specs::Stream::read_of))]
+fn read_of(got: io::Result<usize>, have: usize, size: usize) -> io::Result<Option<usize>>
     ensures { result ≡ read_of size have got }
 {
     if size <= have {
-        return Read::Full;
+        return Ok(None);
     }
-    if got < 0 {
-        return Read::Failed;
-    }
-    let came = got as usize;
+    let came = got?;
     if came == 0 {
-        return Read::Ended;
+        return Ok(None);
     }
-    Read::Has(have + octets::lesser(came, size - have))
+    Ok(Some(have + came.min(size - have)))
 }
 
-// Reads once behind the first `have` bytes.
-pub fn read_behind<R: io::Read>(input: &mut Reader<R>, buf: &mut [u8], have: usize) -> Read
+// Reads once behind the first `have` bytes, and answers how many the buffer has then; None where none came, since the input has ended
+// or there is no room.
+pub fn read_behind<R: io::Read>(
+    input: &mut R,
+    buf: &mut [u8],
+    have: usize,
+) -> io::Result<Option<usize>>
     ensures { ReadBehind buf.old have buf.new result }
 {
     let size = buf.len();
     if size <= have {
-        return Read::Full;
+        return Ok(None);
     }
-    let got = input.from.read(&mut buf[have..]);
-    let answered = answer(&got);
-    if let Err(e) = got {
-        input.why = e;
-    }
-    read_of(answered, have, size)
+    read_of(input.read(&mut buf[have..]), have, size)
 }
 
-// Reads until the buffer is full, the input ends or a read fails.
-pub fn fill<R: io::Read>(input: &mut Reader<R>, buf: &mut [u8]) -> Filled
+// Reads until the buffer is full, the input ends or a read fails, and answers how many bytes came.
+pub fn fill<R: io::Read>(input: &mut R, buf: &mut [u8]) -> io::Result<usize>
     ensures { FilledBy buf.old buf.new result }
 {
     let mut have = 0;
-    while have < buf.len() {
-        match read_behind(input, buf, have) {
-            Read::Has(n) => {
-                have = n;
-            }
-            Read::Ended => {
-                return Filled::Ended(have);
-            }
-            Read::Failed => {
-                return Filled::Failed;
-            }
-            Read::Full => {
-                return Filled::Whole;
-            }
-        }
+    while let Some(more) = read_behind(input, buf, have)? {
+        have = more;
     }
-    Filled::Whole
+    Ok(have)
 }
 
 // What the library says of an error without the number that it puts behind the system's words.
@@ -118,13 +55,12 @@ fn words(told: &[u8]) -> &[u8] {
     let Ok(text) = std::str::from_utf8(told) else {
         return told;
     };
-    match text.split_once(" (os error ") {
-        Some((words, _)) => words.as_bytes(),
-        None => told,
-    }
+    text.split_once(" (os error ")
+        .map_or(told, |(words, _)| words.as_bytes())
 }
 
 // Says what failed, as the caller names it, and why, in a line of its own.
+#[tactic(auto, using(crate::proofs::Said::said))]
 pub fn fail<E: io::Write>(errors: &mut E, what: &[u8], why: io::Error) -> io::Result<()>
     ensures { OnOk result (Says (E.contents errors.old) (E.contents errors.new) what.now) }
 {
@@ -140,6 +76,7 @@ pub fn fail<E: io::Write>(errors: &mut E, what: &[u8], why: io::Error) -> io::Re
 
 // Writes the first `used` bytes of a buffer to standard output, and answers whether all were taken. Where they weren't, says so on
 // standard error: what failed, as the caller names it, and why. To send nothing can't fail.
+// Kept: true or false is all that there is to answer, since why it failed is said here.
 pub fn send<O: io::Write, E: io::Write>(
     output: &mut O,
     errors: &mut E,
@@ -152,30 +89,26 @@ pub fn send<O: io::Write, E: io::Write>(
     if used == 0 {
         return true;
     }
-    match output.write_all(octets::span(out, 0, used)) {
-        Ok(()) => true,
-        Err(e) => {
-            let _ = fail(errors, what, e);
-            false
-        }
-    }
+    let Err(e) = output.write_all(octets::span(out, 0, used)) else {
+        return true;
+    };
+    let _ = fail(errors, what, e);
+    false
 }
 
-// Keeps half of a buffer of lines free, since a line takes less: beyond it what is there is sent.
+// Where the next line starts in a buffer of lines, of which half is kept free, since a line takes less: beyond it what is there is
+// sent. None where that failed.
 pub fn room<O: io::Write, E: io::Write>(
     output: &mut O,
     errors: &mut E,
     out: &[u8],
     used: usize,
     what: &[u8],
-) -> Next
+) -> Option<usize>
     ensures { StartsAt (length out.now) used result }
 {
     if used <= out.len() / 2 {
-        return Next::At(used);
+        return Some(used);
     }
-    if send(output, errors, out, used, what) {
-        return Next::At(0);
-    }
-    Next::Stop
+    send(output, errors, out, used, what).then_some(0)
 }

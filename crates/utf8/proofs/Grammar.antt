@@ -6,14 +6,12 @@ use mathlib.Core.Bool.{Bool, true, false, ◌&&◌, ◌||◌, cond, false≢true
 use mathlib.Core.List.{List, [], ◌∷◌, ◌++◌}
 use native.Mathlib.Omega.{arith}
 use lib.Dec.{leb, eqb}
-use lib.ListN.{take}
 use borrow.Author.Tests.{le-leb, lt-leb, leb-true, ne_eqb, eqb-true}
 use Rattle.utf8.specs.Rfc3629.{Byte, Tail, Utf8-char, Utf8, number}
 use Rattle.utf8.specs.Rfc3629.Utf8-char.{utf8_1, utf8_2, utf8_3_E0, utf8_3_E1_EC, utf8_3_ED, utf8_3_EE_EF, utf8_4_F0, utf8_4_F1_F3, utf8_4_F4}
 use Rattle.utf8.specs.Rfc3629.Utf8.{none, more}
 use Rattle.utf8.specs.Reading.Reading.{bad, char}
 use Rattle.utf8.specs.Reading.{◌from◌to◌, tail, one, two, three, four, Reading, utf8, ends, read, read1, read2, read3}
-use Rattle.utf8.specs.Inside.{char_len, char_len2, char_len3, char_len4}
 
 within : (lo hi b : ℕ) → lo ≤ b → b ≤ hi → b from lo to hi ≡ true
 within lo hi b l h = simp (le-leb lo b l, le-leb b hi h)
@@ -157,36 +155,3 @@ mutual
 -- the test and the grammar say the same
 pub utf8_is_grammar : (s : List ℕ) → utf8 s ≡ true ↔ Utf8 s
 utf8_is_grammar s = (sound s, complete)
-
--- the character at the front, as the grammar has it
-front4 : (a b c d : ℕ) (s : List ℕ) (t : Bool) → four a b c d ≡ t → (◌≡◌ {A = ℕ} (cond t 4 0) 0 → ⊥) → Utf8-char (take (cond t 4 0) (a ∷ b ∷ c ∷ d ∷ s))
-front4 a b c d s true e h = four_char a b c d e
-front4 a b c d s false e h = absurd (h refl)
-
-after3 : (a b c : ℕ) (s : List ℕ) → (char_len4 a b c s ≡ 0 → ⊥) → Utf8-char (take (char_len4 a b c s) (a ∷ b ∷ c ∷ s))
-after3 a b c [] h = absurd (h refl)
-after3 a b c (d ∷ s) h = front4 a b c d s (four a b c d) refl h
-
-front3 : (a b c : ℕ) (s : List ℕ) (t : Bool) → three a b c ≡ t → (cond t 3 (char_len4 a b c s) ≡ 0 → ⊥) → Utf8-char (take (cond t 3 (char_len4 a b c s)) (a ∷ b ∷ c ∷ s))
-front3 a b c s true e h = three_char a b c e
-front3 a b c s false e h = after3 a b c s h
-
-after2 : (a b : ℕ) (s : List ℕ) → (char_len3 a b s ≡ 0 → ⊥) → Utf8-char (take (char_len3 a b s) (a ∷ b ∷ s))
-after2 a b [] h = absurd (h refl)
-after2 a b (c ∷ s) h = front3 a b c s (three a b c) refl h
-
-front2 : (a b : ℕ) (s : List ℕ) (t : Bool) → two a b ≡ t → (cond t 2 (char_len3 a b s) ≡ 0 → ⊥) → Utf8-char (take (cond t 2 (char_len3 a b s)) (a ∷ b ∷ s))
-front2 a b s true e h = two_char a b e
-front2 a b s false e h = after2 a b s h
-
-after1 : (a : ℕ) (s : List ℕ) → (char_len2 a s ≡ 0 → ⊥) → Utf8-char (take (char_len2 a s) (a ∷ s))
-after1 a [] h = absurd (h refl)
-after1 a (b ∷ s) h = front2 a b s (two a b) refl h
-
-front1 : (a : ℕ) (s : List ℕ) (t : Bool) → one a ≡ t → (cond t 1 (char_len2 a s) ≡ 0 → ⊥) → Utf8-char (take (cond t 1 (char_len2 a s)) (a ∷ s))
-front1 a s true e h = one_char a e
-front1 a s false e h = after1 a s h
-
-pub front : (s : List ℕ) → (char_len s ≡ 0 → ⊥) → Utf8-char (take (char_len s) s)
-front [] h = absurd (h refl)
-front (a ∷ s) h = front1 a s (one a) refl h

@@ -1,5 +1,4 @@
 pub mod Front
-pub mod Reading
 pub mod Grammar
 pub mod Plain
 pub mod Number

@@ -1,20 +1,22 @@
 -- The first two bytes of a character tell whether it is allowed; and the loop of `is_plain`, turn by turn.
-use Prim.Native.Nat.{ℕ, ◌+◌, ◌-◌, ◌≤◌, ◌<◌}
+use Prim.Native.Nat.{ℕ, ◌≤◌, ◌<◌}
 use mathlib.Core.Path.{◌≡◌, refl, sym, ap, subst, ◌∙◌}
 use mathlib.Core.Bool.{Bool, true, false, not, ◌&&◌}
 use mathlib.Core.List.{List, [], ◌∷◌, ◌++◌}
 use native.Mathlib.Omega.{arith}
 use lib.Dec.{leb, eqb, leb-zero}
-use lib.ListN.{length, get_or, take, drop, drop_of_length-le, take-append-drop}
-use borrow.Author.Tests.{le-leb, lt-leb, leb-true, leb-false, ne_eqb, eqb-true, eqb-false, not-true, not-false}
+use lib.ListN.{get_or, take, drop, take-append-drop}
+use borrow.Author.Tests.{le-leb, lt-leb, leb-true, leb-false, ne_eqb, eqb-true, eqb-false}
 use Rattle.utf8.specs.Rfc3629.{Byte, Tail, Utf8-char, number}
 use Rattle.utf8.specs.Rfc3629.Utf8-char.{utf8_1, utf8_2, utf8_3_E0, utf8_3_E1_EC, utf8_3_ED, utf8_3_EE_EF, utf8_4_F0, utf8_4_F1_F3, utf8_4_F4}
 use Rattle.utf8.specs.Reading.{read}
-use Rattle.utf8.specs.Inside.{char_len, front_number}
+use Rattle.std.specs.Prelude.{Some, None}
+use mathlib.Core.Logic.{◌⊎◌, inl, inr}
+use Rattle.utf8.specs.Reading.Reading.{bad}
+use Rattle.utf8.specs.Inside.{char_len}
 use Rattle.utf8.specs.Plain.{allowed, all_allowed, plain}
-use Rattle.octets.proofs.Parts.{part_from}
-use Rattle.utf8.proofs.Reading.{read_stop, read_go}
-use Rattle.utf8.proofs.Grammar.{read_char, front}
+use Rattle.utf8.proofs.Grammar.{read_char}
+use Rattle.utf8.proofs.Front.{front, front_none}
 
 -- the test of the first two bytes, as the code has it
 abbrev pub two_bytes : ℕ → ℕ → Bool
@@ -70,10 +72,9 @@ by_char (utf8_4_F0 {b} {c} {d} p q r) s = high (number (0xF0 ∷ b ∷ c ∷ d �
 by_char (utf8_4_F1_F3 {a} {b} {c} {d} p q r u) s = high (number (a ∷ b ∷ c ∷ d ∷ [])) a b (omega arith) (omega arith)
 by_char (utf8_4_F4 {b} {c} {d} p q r) s = high (number (0xF4 ∷ b ∷ c ∷ d ∷ [])) 0xF4 b (omega arith) (omega arith)
 
-pub front_allowed : (s : List ℕ) → (char_len s ≡ 0 → ⊥) → allowed (front_number s) ≡ two_bytes (get_or s 0 0) (get_or s 1 0)
-front_allowed s h =
-    subst (λ (x : List ℕ). allowed (front_number s) ≡ two_bytes (get_or x 0 0) (get_or x 1 0)) (take-append-drop (char_len s) s)
-    (by_char (front s h) (drop (char_len s) s))
+pub front_allowed : (s : List ℕ) (n : ℕ) → char_len s ≡ Some n → allowed (number (take n s)) ≡ two_bytes (get_or s 0 0) (get_or s 1 0)
+front_allowed s n e =
+    subst (λ (x : List ℕ). allowed (number (take n s)) ≡ two_bytes (get_or x 0 0) (get_or x 1 0)) (take-append-drop n s) (by_char (front s n e) (drop n s))
 
 -- ---- characters of the grammar
 
@@ -81,26 +82,22 @@ pub plain_char : {c : List ℕ} → Utf8-char c → (s : List ℕ) → plain (c 
 unfolding plain
 plain_char c s = ap all_allowed (read_char c s)
 
--- ---- a loop that has come to `at`
+-- ---- the loop of `is_plain`, turn by turn
 
-module _ (s : List ℕ) (at n : ℕ) (h : at < length s) (i : plain s ≡ plain (drop at s)) (e : n ≡ char_len (take (length s - at) (drop at s))) where
-  pub plain_stop : n ≡ 0 → true ≡ plain s
-  unfolding plain
-  plain_stop z = sym (i ∙ ap all_allowed (read_stop s at n h e z))
+turn : {u : Bool} (s : List ℕ) (n : ℕ) → u ≡ plain s → char_len s ≡ Some n → u ≡ (allowed (number (take n s)) && plain (drop n s))
+turn s n i e = i ∙ rw take-append-drop at (plain_char (front s n e) (drop n s))
 
-  pub plain_starts : (n ≡ 0 → ⊥) → char_len (take (length s - at) (drop at s)) ≡ 0 → ⊥
-  plain_starts z y = z (e ∙ y)
+pub plain_bad : {u : Bool} (s : List ℕ) (n : ℕ) (r : Bool) → u ≡ plain s → char_len s ≡ Some n → r ≡ allowed (number (take n s)) → r ≡ false → false ≡ u
+plain_bad s n r i e p q = sym (turn s n i e ∙ rw (sym p ∙ q))
 
-  turn : (n ≡ 0 → ⊥) → plain s ≡ (allowed (front_number (take (length s - at) (drop at s))) && plain (drop (at + n) s))
-  unfolding plain
-  turn z = i ∙ ap all_allowed (read_go s at n h e z) ∙ rw (part_from s at)
+pub plain_go : {u : Bool} {t : List ℕ} (s : List ℕ) (n : ℕ) (r : Bool) → u ≡ plain s → char_len s ≡ Some n → r ≡ allowed (number (take n s)) → r ≡ true → t ≡ drop n s → u ≡ plain t
+plain_go s n r i e p q f = turn s n i e ∙ rw (sym p ∙ q) (ap plain (sym f))
 
-  pub plain_bad : (r : Bool) → (n ≡ 0 → ⊥) → r ≡ allowed (front_number (take (length s - at) (drop at s))) → not r ≡ true → false ≡ plain s
-  plain_bad r z p q = sym (turn z ∙ rw (sym p ∙ not-true r q))
-
-  pub plain_go : (r : Bool) → (n ≡ 0 → ⊥) → r ≡ allowed (front_number (take (length s - at) (drop at s))) → not r ≡ false → plain s ≡ plain (drop (at + n) s)
-  plain_go r z p q = turn z ∙ rw (sym p ∙ not-false r q)
-
-pub plain_done : (s : List ℕ) (at : ℕ) → length s ≤ at → plain s ≡ plain (drop at s) → true ≡ plain s
+pub plain_end : {u : Bool} (s : List ℕ) → u ≡ plain s → char_len s ≡ None → true ≡ u
 unfolding plain read
-plain_done s at h i = sym (i ∙ ap plain (drop_of_length-le s h))
+plain_end s i e = go s (front_none s e) ∙ sym i
+  where
+    go : (s : List ℕ) → (s ≡ []) ⊎ (read s ≡ bad) → true ≡ all_allowed (read s)
+    go [] h = refl
+    go (a ∷ s) (inl h) = cc
+    go (a ∷ s) (inr h) = sym (ap all_allowed h)

@@ -1,28 +1,12 @@
 -- What private functions promise: the character at the front of bytes. No public promise rests on these.
-use Rattle.std.specs.Prelude.{ℕ, cond, List, [], ◌∷◌, take}
-use Rattle.utf8.specs.Rfc3629.{number}
+use Rattle.std.specs.Prelude.{ℕ, ◌&&◌, cond, List, Option, Some, None, leb, length}
+use Rattle.octets.specs.Bytes.{byte_at}
 use Rattle.utf8.specs.Reading.{one, two, three, four}
 
--- how many bytes the character at the front has, 0 where none starts there: by its first three bytes and the rest
-abbrev pub char_len4 : ℕ → ℕ → ℕ → List ℕ → ℕ
-char_len4 a b c [] = 0
-char_len4 a b c (d ∷ s) = cond (four a b c d) 4 0
-
--- by its first two bytes and the rest
-abbrev pub char_len3 : ℕ → ℕ → List ℕ → ℕ
-char_len3 a b [] = 0
-char_len3 a b (c ∷ s) = cond (three a b c) 3 (char_len4 a b c s)
-
--- by its first byte and the rest
-abbrev pub char_len2 : ℕ → List ℕ → ℕ
-char_len2 a [] = 0
-char_len2 a (b ∷ s) = cond (two a b) 2 (char_len3 a b s)
-
--- by the bytes
-abbrev pub char_len : List ℕ → ℕ
-char_len [] = 0
-char_len (a ∷ s) = cond (one a) 1 (char_len2 a s)
-
--- the number of the character at the front
-abbrev pub front_number : List ℕ → ℕ
-front_number s = number (take (char_len s) s)
+-- how many bytes the character at the front has: the first of the four forms that stands there; none where none does
+abbrev pub char_len : List ℕ → Option ℕ
+char_len s =
+    cond (leb 1 (length s) && one (byte_at s 0)) (Some 1)
+    (cond (leb 2 (length s) && two (byte_at s 0) (byte_at s 1)) (Some 2)
+    (cond (leb 3 (length s) && three (byte_at s 0) (byte_at s 1) (byte_at s 2)) (Some 3)
+    (cond (leb 4 (length s) && four (byte_at s 0) (byte_at s 1) (byte_at s 2) (byte_at s 3)) (Some 4) None)))

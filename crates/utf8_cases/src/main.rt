@@ -1,126 +1,166 @@
 // UTF-8 cases: a line for each with the bytes in hex, 1 or 0 for `is_utf8`, and 1 or 0 for `is_plain`.
 #![tactic(auto)]
 
-ghost use Rattle.std.specs.Prelude.{◌≡◌};
-
 use std::io;
 
-fn wide(b: u8) -> usize
-    ensures { result ≡ b }
-{
-    b as usize
-}
-
-fn print_bytes(rt: &HostRuntime, bytes: &[u8]) -> io::Result<()> {
+fn print_case(rt: &HostRuntime, bytes: &[u8]) -> io::Result<()> {
     print!(rt; "x")?;
     for byte in bytes {
         print!(rt; "{byte:02x}")?;
     }
-    Ok(())
-}
-
-fn bit(is: bool) -> u8 {
-    if is { 1 } else { 0 }
-}
-
-fn print_case(rt: &HostRuntime, bytes: &[u8]) -> io::Result<()> {
-    print_bytes(rt, bytes)?;
-    let text = bit(utf8::is_utf8(bytes));
-    let plain = bit(utf8::is_plain(bytes));
+    let text = u8::from(utf8::is_utf8(bytes));
+    let plain = u8::from(utf8::is_plain(bytes));
     println!(rt; " {text} {plain}")
 }
 
-// Cases one after the other, each its length and its bytes.
-fn print_cases(rt: &HostRuntime, cases: &[u8]) -> io::Result<()> {
-    let mut at = 0;
-    while at < cases.len() {
-        let start = at + 1;
-        let n = wide(cases[at]);
-        if cases.len() - start < n {
-            return Ok(());
-        }
-        at = start + n;
-        print_case(rt, &cases[start..at])?;
-    }
-    Ok(())
-}
-
-// Of each printed row of RFC 3629, section 4: the first sequence and the last, a byte just below and just above its range at each
+// What to try. A row of RFC 3629, section 4, has the first sequence and the last, a byte just below and just above its range at each
 // later place, and the last sequence cut short.
-fn print_rows(rt: &HostRuntime) -> io::Result<()> {
+const CASES: [&[u8]; 124] = [
+    // The empty text.
+    b"",
     // UTF8-1 = %x00-7F.
-    print_cases(rt, b"\x01\x00\x01\x7F")?;
+    b"\x00",
+    b"\x7F",
     // UTF8-2 = %xC2-DF UTF8-tail.
-    print_cases(
-        rt,
-        b"\x02\xC2\x80\x02\xDF\xBF\x02\xDF\x7F\x02\xC2\xC0\x01\xDF",
-    )?;
+    b"\xC2\x80",
+    b"\xDF\xBF",
+    b"\xDF\x7F",
+    b"\xC2\xC0",
+    b"\xDF",
     // UTF8-3 = %xE0 %xA0-BF UTF8-tail.
-    print_cases(
-        rt,
-        b"\x03\xE0\xA0\x80\x03\xE0\xBF\xBF\x03\xE0\x9F\xBF\x03\xE0\xC0\x80\x03\xE0\xBF\x7F\x03\xE0\xA0\xC0\x01\xE0\x02\xE0\xBF",
-    )?;
+    b"\xE0\xA0\x80",
+    b"\xE0\xBF\xBF",
+    b"\xE0\x9F\xBF",
+    b"\xE0\xC0\x80",
+    b"\xE0\xBF\x7F",
+    b"\xE0\xA0\xC0",
+    b"\xE0",
+    b"\xE0\xBF",
     // UTF8-3 = %xE1-EC 2( UTF8-tail ).
-    print_cases(
-        rt,
-        b"\x03\xE1\x80\x80\x03\xEC\xBF\xBF\x03\xEC\x7F\xBF\x03\xE1\xC0\x80\x03\xEC\xBF\x7F\x03\xE1\x80\xC0\x01\xEC\x02\xEC\xBF",
-    )?;
+    b"\xE1\x80\x80",
+    b"\xEC\xBF\xBF",
+    b"\xEC\x7F\xBF",
+    b"\xE1\xC0\x80",
+    b"\xEC\xBF\x7F",
+    b"\xE1\x80\xC0",
+    b"\xEC",
+    b"\xEC\xBF",
     // UTF8-3 = %xED %x80-9F UTF8-tail.
-    print_cases(
-        rt,
-        b"\x03\xED\x80\x80\x03\xED\x9F\xBF\x03\xED\x7F\xBF\x03\xED\xA0\x80\x03\xED\x9F\x7F\x03\xED\x80\xC0\x01\xED\x02\xED\x9F",
-    )?;
+    b"\xED\x80\x80",
+    b"\xED\x9F\xBF",
+    b"\xED\x7F\xBF",
+    b"\xED\xA0\x80",
+    b"\xED\x9F\x7F",
+    b"\xED\x80\xC0",
+    b"\xED",
+    b"\xED\x9F",
     // UTF8-3 = %xEE-EF 2( UTF8-tail ).
-    print_cases(
-        rt,
-        b"\x03\xEE\x80\x80\x03\xEF\xBF\xBF\x03\xEF\x7F\xBF\x03\xEE\xC0\x80\x03\xEF\xBF\x7F\x03\xEE\x80\xC0\x01\xEF\x02\xEF\xBF",
-    )?;
+    b"\xEE\x80\x80",
+    b"\xEF\xBF\xBF",
+    b"\xEF\x7F\xBF",
+    b"\xEE\xC0\x80",
+    b"\xEF\xBF\x7F",
+    b"\xEE\x80\xC0",
+    b"\xEF",
+    b"\xEF\xBF",
     // UTF8-4 = %xF0 %x90-BF 2( UTF8-tail ).
-    print_cases(
-        rt,
-        b"\x04\xF0\x90\x80\x80\x04\xF0\xBF\xBF\xBF\x04\xF0\x8F\xBF\xBF\x04\xF0\xC0\x80\x80\x04\xF0\xBF\x7F\xBF\x04\xF0\x90\xC0\x80\x04\xF0\xBF\xBF\x7F\x04\xF0\x90\x80\xC0\x01\xF0\x02\xF0\xBF\x03\xF0\xBF\xBF",
-    )?;
+    b"\xF0\x90\x80\x80",
+    b"\xF0\xBF\xBF\xBF",
+    b"\xF0\x8F\xBF\xBF",
+    b"\xF0\xC0\x80\x80",
+    b"\xF0\xBF\x7F\xBF",
+    b"\xF0\x90\xC0\x80",
+    b"\xF0\xBF\xBF\x7F",
+    b"\xF0\x90\x80\xC0",
+    b"\xF0",
+    b"\xF0\xBF",
+    b"\xF0\xBF\xBF",
     // UTF8-4 = %xF1-F3 3( UTF8-tail ).
-    print_cases(
-        rt,
-        b"\x04\xF1\x80\x80\x80\x04\xF3\xBF\xBF\xBF\x04\xF3\x7F\xBF\xBF\x04\xF1\xC0\x80\x80\x04\xF3\xBF\x7F\xBF\x04\xF1\x80\xC0\x80\x04\xF3\xBF\xBF\x7F\x04\xF1\x80\x80\xC0\x01\xF3\x02\xF3\xBF\x03\xF3\xBF\xBF",
-    )?;
+    b"\xF1\x80\x80\x80",
+    b"\xF3\xBF\xBF\xBF",
+    b"\xF3\x7F\xBF\xBF",
+    b"\xF1\xC0\x80\x80",
+    b"\xF3\xBF\x7F\xBF",
+    b"\xF1\x80\xC0\x80",
+    b"\xF3\xBF\xBF\x7F",
+    b"\xF1\x80\x80\xC0",
+    b"\xF3",
+    b"\xF3\xBF",
+    b"\xF3\xBF\xBF",
     // UTF8-4 = %xF4 %x80-8F 2( UTF8-tail ).
-    print_cases(
-        rt,
-        b"\x04\xF4\x80\x80\x80\x04\xF4\x8F\xBF\xBF\x04\xF4\x7F\xBF\xBF\x04\xF4\x90\x80\x80\x04\xF4\x8F\x7F\xBF\x04\xF4\x80\xC0\x80\x04\xF4\x8F\xBF\x7F\x04\xF4\x80\x80\xC0\x01\xF4\x02\xF4\x8F\x03\xF4\x8F\xBF",
-    )
-}
+    b"\xF4\x80\x80\x80",
+    b"\xF4\x8F\xBF\xBF",
+    b"\xF4\x7F\xBF\xBF",
+    b"\xF4\x90\x80\x80",
+    b"\xF4\x8F\x7F\xBF",
+    b"\xF4\x80\xC0\x80",
+    b"\xF4\x8F\xBF\x7F",
+    b"\xF4\x80\x80\xC0",
+    b"\xF4",
+    b"\xF4\x8F",
+    b"\xF4\x8F\xBF",
+    // Leads that no row has.
+    b"\x80",
+    b"\xBF",
+    b"\xC0\x80",
+    b"\xC1\xBF",
+    b"\xF5\x80\x80\x80",
+    b"\xF8\x88\x80\x80\x80",
+    b"\xFC\x84\x80\x80\x80\x80",
+    b"\xFE",
+    b"\xFF",
+    // Surrogates, the numbers around them, overlong forms of `/`, the byte order mark.
+    b"\xED\xBF\xBF",
+    b"\xED\xA0\x80\xED\xB0\x80",
+    b"\xC0\xAF",
+    b"\xE0\x80\xAF",
+    b"\xF0\x80\x80\xAF",
+    b"\xEF\xBB\xBF",
+    b"\xEF\xBF\xBE",
+    // Characters that a label may or may not hold.
+    b"\x1F",
+    b"\x20",
+    b"\x2E",
+    b"\x2F",
+    b"\x30",
+    b"\x7E",
+    b"\x7F",
+    b"\xC2\x80",
+    b"\xC2\x9F",
+    b"\xC2\xA0",
+    b"\xC3\x80",
+    // Texts: eight bytes and more, a fault at the front, in the middle, at the end, and what stands behind a fault.
+    b"\x2D",
+    b"..",
+    b"volume",
+    b"12345678",
+    b"123456789",
+    b"1234567\xFF",
+    b"\xFF2345678",
+    b"12345678\x80",
+    b"1234567\xC3\xA4",
+    b"123456789012345\xE2\x82",
+    b"Gr\xC3\xBC\xC3\x9Fe",
+    b"\xE6\x97\xA5\xE6\x9C\xAC\xE8\xAA\x9E",
+    b"a\xF0\x9F\x98\x80b",
+    b"\xE2\x82\xAC\xE2\x82",
+    b"\xE2\x82ab",
+    b"a/b",
+    b"12345678/",
+    b"12345678\x1F",
+    b"\xE6\x97\xA5/\xE6\x9C\xAC",
+    b"\xC3\xA9\xC2\x85",
+    b"/\xFF",
+    b"\xFF/",
+    b"\xC2/",
+    b"\x00a\xFF",
+];
 
 fn run(rt: &HostRuntime) -> io::Result<()> {
-    // The empty text.
-    print_cases(rt, b"\x00")?;
-    print_rows(rt)?;
-    // Leads that no row has.
-    print_cases(
-        rt,
-        b"\x01\x80\x01\xBF\x02\xC0\x80\x02\xC1\xBF\x04\xF5\x80\x80\x80\x05\xF8\x88\x80\x80\x80\x06\xFC\x84\x80\x80\x80\x80\x01\xFE\x01\xFF",
-    )?;
-    // Surrogates, the numbers around them, overlong forms of `/`, the byte order mark.
-    print_cases(
-        rt,
-        b"\x03\xED\xBF\xBF\x06\xED\xA0\x80\xED\xB0\x80\x02\xC0\xAF\x03\xE0\x80\xAF\x04\xF0\x80\x80\xAF\x03\xEF\xBB\xBF\x03\xEF\xBF\xBE",
-    )?;
-    // Characters that a label may or may not hold.
-    print_cases(
-        rt,
-        b"\x01\x1F\x01\x20\x01\x2E\x01\x2F\x01\x30\x01\x7E\x01\x7F\x02\xC2\x80\x02\xC2\x9F\x02\xC2\xA0\x02\xC3\x80",
-    )?;
-    // Texts: eight bytes and more, a fault at the front, in the middle, at the end, and what stands behind a fault.
-    print_cases(
-        rt,
-        b"\x01\x2D\x02..\x06volume\x0812345678\x09123456789\x081234567\xFF\x08\xFF2345678\x0912345678\x80\x091234567\xC3\xA4\x11123456789012345\xE2\x82\x07Gr\xC3\xBC\xC3\x9Fe\x09\xE6\x97\xA5\xE6\x9C\xAC\xE8\xAA\x9E",
-    )?;
-    print_cases(
-        rt,
-        b"\x06a\xF0\x9F\x98\x80b\x05\xE2\x82\xAC\xE2\x82\x04\xE2\x82ab\x03a/b\x0912345678/\x0912345678\x1F\x07\xE6\x97\xA5/\xE6\x9C\xAC\x04\xC3\xA9\xC2\x85\x02/\xFF\x02\xFF/\x02\xC2/",
-    )?;
-    print_case(rt, b"\x00a\xFF")
+    for case in &CASES {
+        print_case(rt, case)?;
+    }
+    Ok(())
 }
 
 fn main(rt: HostRuntime) {

@@ -1,7 +1,8 @@
 -- Allocation groups: 16,384 blocks each (the Rust's `allocation_group_count` and `reserved_group_blocks`; 01, "What takes another shape").
+use Rattle.std.specs.Prelude.{Ok}
 use Rattle.std.specs.Prelude.{ℕ, ◌+◌, ◌-◌, ◌*◌, ◌/◌, min, max, [], ◌∷◌}
 use Rattle.error.specs.declared.Error.TheVariants.{Corrupt}
-use Rattle.error.specs.declared.Number.{Number}
+use Rattle.error.specs.Answer.{Number}
 use Rattle.error.specs.Demand.{◌otherwise◌, outcome}
 use Rattle.error.specs.Reason as reason
 use Rattle.volume.specs.Numbers.{largest, sum_fits}
@@ -18,7 +19,7 @@ groups_of blocks = (blocks + (allocation_group_blocks - 1)) / allocation_group_b
 -- the same, refused, with class 3 in every mode, where the rounding passes 64 bits
 unfoldable pub allocation_group_count : ℕ → Number
 allocation_group_count blocks =
-    outcome (sum_fits blocks (allocation_group_blocks - 1) otherwise Corrupt reason.allocation_group_range ∷ []) Number.Refused (Number.Value (groups_of blocks))
+    outcome (sum_fits blocks (allocation_group_blocks - 1) otherwise Corrupt reason.allocation_group_range ∷ []) (Ok (groups_of blocks))
 
 -- the first block of a group, as far as 64 bits go
 abbrev pub group_start : ℕ → ℕ

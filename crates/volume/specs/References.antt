@@ -1,7 +1,7 @@
 -- The checks of block counts, references, slots and UUIDs (01, section 2, in the order of the Rust's `validate_page_ref` and its like).
 use Rattle.std.specs.Prelude.{ℕ, ◌+◌, Bool, not, ◌&&◌, cond, List, [], ◌∷◌, leb, eqb}
 use Rattle.error.specs.declared.Validation.{Validation}
-use Rattle.error.specs.declared.Check.{Check}
+use Rattle.error.specs.Answer.{Check}
 use Rattle.error.specs.Answer.{violation_of}
 use Rattle.error.specs.Demand.{Demand, ◌otherwise◌, passing, demands}
 use Rattle.error.specs.Reason as reason
@@ -34,23 +34,24 @@ ref_at s offset = record { block = u64_at s offset; generation = u64_at s (offse
 unfoldable pub validate_blocks : ℕ → Validation → Check
 validate_blocks blocks mode = demands (leb 1024 blocks otherwise violation_of mode reason.device_has_no_usable_block_range ∷ [])
 
--- `validate_tree_ref`, READING-RULES 5.2: B is at least 1,024; a reference names a generation, and a block that is not reserved
-abbrev pub tree_ref_demands : TreeRef → ℕ → Validation → List Demand
-tree_ref_demands reference blocks mode =
+-- READING-RULES 5.2: B is at least 1,024; a reference names a generation, and its block lies where pages of its tree do
+abbrev pub ref_demands : TreeRef → ℕ → Validation → Bool → ℕ → List Demand
+ref_demands reference blocks mode lies why =
     passing (validate_blocks blocks mode)
-    ∷ (not (eqb reference.generation 0) && is_nonreserved_block reference.block blocks) otherwise violation_of mode reason.invalid_tree_reference
+    ∷ (not (eqb reference.generation 0) && lies) otherwise violation_of mode why
     ∷ []
+
+-- `validate_tree_ref`, READING-RULES 5.2: it names a block that is not reserved
+abbrev pub tree_ref_demands : TreeRef → ℕ → Validation → List Demand
+tree_ref_demands reference blocks mode = ref_demands reference blocks mode (is_nonreserved_block reference.block blocks) reason.invalid_tree_reference
 
 -- 01, "Return classes": the first that fails answers
 unfoldable pub validate_tree_ref : TreeRef → ℕ → Validation → Check
 validate_tree_ref reference blocks mode = demands (tree_ref_demands reference blocks mode)
 
--- `validate_page_ref`, READING-RULES 5.2: B is at least 1,024; a reference to a page of the workspace names a generation, and a bank block
+-- `validate_page_ref`, READING-RULES 5.2: a reference to a page of the workspace names a bank block
 abbrev pub workspace_ref_demands : TreeRef → ℕ → Validation → List Demand
-workspace_ref_demands reference blocks mode =
-    passing (validate_blocks blocks mode)
-    ∷ (not (eqb reference.generation 0) && is_bank_block reference.block blocks) otherwise violation_of mode reason.invalid_workspace_page_reference
-    ∷ []
+workspace_ref_demands reference blocks mode = ref_demands reference blocks mode (is_bank_block reference.block blocks) reason.invalid_workspace_page_reference
 
 -- 01, "Return classes": the first that fails answers
 unfoldable pub validate_workspace_ref : TreeRef → ℕ → Validation → Check

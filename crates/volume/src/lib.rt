@@ -1,13 +1,14 @@
 // Volume blocks: which block numbers mean what, and the checks of references. Document 01, section 2.
 #![tactic(auto)]
 
-ghost use Rattle.std.specs.Prelude.{◌≡◌, ◌-◌, min, max};
+ghost use Rattle.std.specs.Prelude.{◌≡◌};
 ghost use Rattle.volume.specs.Numbers.{sum_fits};
 ghost use Rattle.volume.specs.Blocks.{is_nonreserved_block, is_nonreserved_run, is_bank_root, is_bank_block, is_root_slot};
-ghost use Rattle.volume.specs.References.{tree_kind_value, tree_kind_of, ref_at, validate_blocks, validate_tree_ref, validate_workspace_ref, validate_page_ref, validate_root_slot, validate_uuid};
+ghost use Rattle.error.specs.Demand.{demands};
+ghost use Rattle.volume.specs.References.{ref_demands, tree_kind_value, tree_kind_of, ref_at, validate_blocks, validate_tree_ref, validate_workspace_ref, validate_page_ref, validate_root_slot, validate_uuid};
 ghost use Rattle.volume.specs.Groups.{groups_of, allocation_group_count, group_start, group_end, reserved_group_blocks};
 
-use error::{Check, Error, Number, Validation, reason};
+use error::{Error, Validation, reason};
 
 pub const RESERVED_BLOCKS: u64 = 512;
 
@@ -19,23 +20,24 @@ pub const ALLOCATION_GROUP_BLOCKS: u64 = 16384;
 pub const MAX_ID: u64 = 0x7FFF_FFFF_FFFF_FFFF;
 
 // A page's block and the generation that it was written in.
-#[derive(Clone, Copy)]
+#[derive(Clone, Copy, Debug, PartialEq, Eq)]
 pub struct TreeRef {
     pub block: u64,
     pub generation: u64,
 }
 
-// The tree that a page belongs to.
-#[derive(Clone, Copy)]
+// The tree that a page belongs to, as 01, section 4, numbers them.
+#[derive(Clone, Copy, Debug, PartialEq, Eq)]
 pub enum TreeKind {
-    Catalog,
-    Allocation,
-    Cleanup,
-    Workspace,
+    Catalog = 1,
+    Allocation = 2,
+    Cleanup = 3,
+    Workspace = 4,
 }
 
 // Two ranges of blocks, each from its start up to but not including its end.
-#[derive(Clone, Copy)]
+// Kept: numbers, not the library's ranges, which can't be copied; document 01 has them by value.
+#[derive(Clone, Copy, Debug, PartialEq, Eq)]
 pub struct GroupBlocks {
     pub low_start: u64,
     pub low_end: u64,
@@ -46,28 +48,21 @@ pub struct GroupBlocks {
 pub fn tree_kind_value(kind: TreeKind) -> u8
     ensures { result ≡ tree_kind_value kind }
 {
-    match kind {
-        TreeKind::Catalog => 1,
-        TreeKind::Allocation => 2,
-        TreeKind::Cleanup => 3,
-        TreeKind::Workspace => 4,
-    }
+    kind as u8
 }
 
 // The tree kind of a number that was tested to be one.
+// Kept: no `TryFrom`: every number has an answer here, and none is refused.
+#[tactic(auto, unfolding(crate::specs::References::tree_kind_of))]
 pub fn tree_kind_of(value: u64) -> TreeKind
     ensures { result ≡ tree_kind_of value }
 {
-    if value == 1 {
-        return TreeKind::Catalog;
+    match value {
+        1 => TreeKind::Catalog,
+        2 => TreeKind::Allocation,
+        3 => TreeKind::Cleanup,
+        _ => TreeKind::Workspace,
     }
-    if value == 2 {
-        return TreeKind::Allocation;
-    }
-    if value == 3 {
-        return TreeKind::Cleanup;
-    }
-    TreeKind::Workspace
 }
 
 // The reference that stands at a place of stored bytes.
@@ -84,183 +79,171 @@ pub fn ref_at(bytes: &[u8], at: usize) -> TreeRef
 pub fn sum_fits(a: u64, b: u64) -> bool
     ensures { result ≡ sum_fits a b }
 {
-    a <= 0xFFFF_FFFF_FFFF_FFFF - b
+    a.checked_add(b).is_some()
 }
 
-// a - b, 0 where b is larger.
-pub fn saturating_sub(a: u64, b: u64) -> u64
-    ensures { result ≡ a - b }
-{
-    if a < b {
-        return 0;
-    }
-    a - b
-}
-
-fn lesser(a: u64, b: u64) -> u64
-    ensures { result ≡ min a b }
-{
-    if a < b { a } else { b }
-}
-
-fn greater(a: u64, b: u64) -> u64
-    ensures { result ≡ max a b }
-{
-    if a < b { b } else { a }
-}
-
+#[tactic(auto, unfolding(crate::specs::Blocks::is_nonreserved_block))]
 pub fn is_nonreserved_block(block: u64, blocks: u64) -> bool
     ensures { result ≡ is_nonreserved_block block blocks }
 {
-    (RESERVED_BLOCKS <= block)
-        & (RESERVED_TOTAL_BLOCKS <= blocks)
-        & (block < saturating_sub(blocks, RESERVED_BLOCKS))
+    RESERVED_TOTAL_BLOCKS <= blocks && (RESERVED_BLOCKS..blocks - RESERVED_BLOCKS).contains(&block)
 }
 
 // Whether so many blocks from the first on are non-reserved.
+#[tactic(auto, unfolding(crate::specs::Blocks::is_nonreserved_run, crate::specs::Blocks::is_nonreserved_block))]
 pub fn is_nonreserved_run(first: u64, count: u64, blocks: u64) -> bool
     ensures { result ≡ is_nonreserved_run first count blocks }
 {
-    if !is_nonreserved_block(first, blocks) {
-        return false;
-    }
-    let end = saturating_sub(blocks, RESERVED_BLOCKS);
-    count <= saturating_sub(end, first)
+    is_nonreserved_block(first, blocks)
+        && count <= blocks.saturating_sub(RESERVED_BLOCKS).saturating_sub(first)
 }
 
 // Whether the block is the root of either workspace bank.
+#[tactic(auto, unfolding(crate::specs::Blocks::is_bank_root))]
 pub fn is_bank_root(block: u64, blocks: u64) -> bool
     ensures { result ≡ is_bank_root block blocks }
 {
-    (RESERVED_TOTAL_BLOCKS <= blocks) & ((block == 32) | (block == saturating_sub(blocks, 96)))
+    RESERVED_TOTAL_BLOCKS <= blocks && (block == 32 || block == blocks - 96)
 }
 
 // Whether the block lies in either workspace bank.
+#[tactic(auto, unfolding(crate::specs::Blocks::is_bank_block))]
 pub fn is_bank_block(block: u64, blocks: u64) -> bool
     ensures { result ≡ is_bank_block block blocks }
 {
-    (RESERVED_TOTAL_BLOCKS <= blocks)
-        & ((32 <= block) & (block <= 95)
-            | (saturating_sub(blocks, 96) <= block) & (block <= saturating_sub(blocks, 33)))
+    RESERVED_TOTAL_BLOCKS <= blocks
+        && ((32..=95).contains(&block) || (blocks - 96..=blocks - 33).contains(&block))
 }
 
+#[tactic(auto, unfolding(crate::specs::Blocks::is_root_slot))]
 fn is_root_slot(slot: u64, blocks: u64) -> bool
     ensures { result ≡ is_root_slot slot blocks }
 {
-    (slot == 256) | (slot == saturating_sub(blocks, 257))
+    slot == 256 || slot == blocks.saturating_sub(257)
 }
 
-pub fn validate_blocks(blocks: u64, mode: Validation) -> Check
+#[tactic(auto, unfolding(crate::specs::References::validate_blocks, error::specs::Demand::outcome))]
+pub fn validate_blocks(blocks: u64, mode: Validation) -> Result<(), Error>
     ensures { result ≡ validate_blocks blocks mode }
 {
     if blocks < RESERVED_TOTAL_BLOCKS {
-        return Check::Refused(error::violation(mode, reason::DEVICE_HAS_NO_USABLE_BLOCK_RANGE));
+        return Err(error::violation(mode, reason::DEVICE_HAS_NO_USABLE_BLOCK_RANGE));
     }
-    Check::Passed
+    Ok(())
 }
 
-pub fn validate_tree_ref(reference: TreeRef, blocks: u64, mode: Validation) -> Check
+// A reference to a page whose block lies where pages of its tree do, or not: then, and where it names no generation, a violation with the reason.
+#[tactic(auto, unfolding(error::specs::Demand::outcome))]
+fn validate_ref(
+    reference: TreeRef,
+    blocks: u64,
+    mode: Validation,
+    lies: bool,
+    why: u16,
+) -> Result<(), Error>
+    ensures { result ≡ demands (ref_demands reference blocks mode lies why) }
+{
+    validate_blocks(blocks, mode)?;
+    if reference.generation == 0 || !lies {
+        return Err(error::violation(mode, why));
+    }
+    Ok(())
+}
+
+#[tactic(auto, unfolding(crate::specs::References::validate_tree_ref))]
+pub fn validate_tree_ref(reference: TreeRef, blocks: u64, mode: Validation) -> Result<(), Error>
     ensures { result ≡ validate_tree_ref reference blocks mode }
 {
-    let range = validate_blocks(blocks, mode);
-    let Check::Passed = range else {
-        return range;
-    };
-    if reference.generation == 0 {
-        return Check::Refused(error::violation(mode, reason::INVALID_TREE_REFERENCE));
-    }
-    if !is_nonreserved_block(reference.block, blocks) {
-        return Check::Refused(error::violation(mode, reason::INVALID_TREE_REFERENCE));
-    }
-    Check::Passed
+    let lies = is_nonreserved_block(reference.block, blocks);
+    validate_ref(
+        reference,
+        blocks,
+        mode,
+        lies,
+        reason::INVALID_TREE_REFERENCE,
+    )
 }
 
-fn validate_workspace_ref(reference: TreeRef, blocks: u64, mode: Validation) -> Check
+#[tactic(auto, unfolding(crate::specs::References::validate_workspace_ref))]
+fn validate_workspace_ref(reference: TreeRef, blocks: u64, mode: Validation) -> Result<(), Error>
     ensures { result ≡ validate_workspace_ref reference blocks mode }
 {
-    let range = validate_blocks(blocks, mode);
-    let Check::Passed = range else {
-        return range;
-    };
-    if reference.generation == 0 {
-        return Check::Refused(error::violation(mode, reason::INVALID_WORKSPACE_PAGE_REFERENCE));
-    }
-    if !is_bank_block(reference.block, blocks) {
-        return Check::Refused(error::violation(mode, reason::INVALID_WORKSPACE_PAGE_REFERENCE));
-    }
-    Check::Passed
+    let lies = is_bank_block(reference.block, blocks);
+    validate_ref(
+        reference,
+        blocks,
+        mode,
+        lies,
+        reason::INVALID_WORKSPACE_PAGE_REFERENCE,
+    )
 }
 
-pub fn validate_page_ref(reference: TreeRef, kind: TreeKind, blocks: u64, mode: Validation) -> Check
+pub fn validate_page_ref(
+    reference: TreeRef,
+    kind: TreeKind,
+    blocks: u64,
+    mode: Validation,
+) -> Result<(), Error>
     ensures { result ≡ validate_page_ref reference kind blocks mode }
 {
     match kind {
-        TreeKind::Catalog => validate_tree_ref(reference, blocks, mode),
-        TreeKind::Allocation => validate_tree_ref(reference, blocks, mode),
-        TreeKind::Cleanup => validate_tree_ref(reference, blocks, mode),
+        TreeKind::Catalog | TreeKind::Allocation | TreeKind::Cleanup => validate_tree_ref(
+            reference, blocks, mode,
+        ),
         TreeKind::Workspace => validate_workspace_ref(reference, blocks, mode),
     }
 }
 
-pub fn validate_root_slot(slot: u64, blocks: u64, mode: Validation) -> Check
+#[tactic(auto, unfolding(crate::specs::References::validate_root_slot, error::specs::Demand::outcome))]
+pub fn validate_root_slot(slot: u64, blocks: u64, mode: Validation) -> Result<(), Error>
     ensures { result ≡ validate_root_slot slot blocks mode }
 {
-    let range = validate_blocks(blocks, mode);
-    let Check::Passed = range else {
-        return range;
-    };
+    validate_blocks(blocks, mode)?;
     if !is_root_slot(slot, blocks) {
-        return Check::Refused(error::violation(mode, reason::INVALID_ROOT_SLOT));
+        return Err(error::violation(mode, reason::INVALID_ROOT_SLOT));
     }
-    Check::Passed
+    Ok(())
 }
 
-pub fn validate_uuid(uuid: &[u8; 16], mode: Validation) -> Check
+#[tactic(auto, unfolding(crate::specs::References::validate_uuid, error::specs::Demand::outcome))]
+pub fn validate_uuid(uuid: &[u8; 16], mode: Validation) -> Result<(), Error>
     ensures { result ≡ validate_uuid uuid.now mode }
 {
     if octets::all_zero(uuid) {
-        return Check::Refused(error::violation(mode, reason::ZERO_VOLUME_UUID));
+        return Err(error::violation(mode, reason::ZERO_VOLUME_UUID));
     }
-    Check::Passed
+    Ok(())
 }
 
 // blocks / 16,384, rounded up; no sum is made that could pass 64 bits.
+#[tactic(auto, unfolding(crate::specs::Groups::groups_of))]
 pub fn groups_of(blocks: u64) -> u64
     ensures { result ≡ groups_of blocks }
 {
-    if blocks % ALLOCATION_GROUP_BLOCKS == 0 {
-        return blocks / ALLOCATION_GROUP_BLOCKS;
-    }
-    blocks / ALLOCATION_GROUP_BLOCKS + 1
+    blocks.div_ceil(ALLOCATION_GROUP_BLOCKS)
 }
 
 // How many allocation groups the blocks fill, refused as in the Rust where its sum would pass 64 bits.
-pub fn allocation_group_count(blocks: u64) -> Number
+#[tactic(auto, unfolding(crate::specs::Groups::allocation_group_count, error::specs::Demand::outcome))]
+pub fn allocation_group_count(blocks: u64) -> Result<u64, Error>
     ensures { result ≡ allocation_group_count blocks }
 {
     if !sum_fits(blocks, ALLOCATION_GROUP_BLOCKS - 1) {
-        return Number::Refused(Error::Corrupt(reason::ALLOCATION_GROUP_RANGE));
+        return Err(Error::Corrupt(reason::ALLOCATION_GROUP_RANGE));
     }
-    Number::Value(groups_of(blocks))
+    Ok(groups_of(blocks))
 }
 
 fn group_start(group: u64) -> u64
     ensures { result ≡ group_start group }
 {
-    if 0xFFFF_FFFF_FFFF_FFFF / ALLOCATION_GROUP_BLOCKS < group {
-        return 0xFFFF_FFFF_FFFF_FFFF;
-    }
-    group * ALLOCATION_GROUP_BLOCKS
+    group.saturating_mul(ALLOCATION_GROUP_BLOCKS)
 }
 
 fn group_end(group: u64) -> u64
     ensures { result ≡ group_end group }
 {
-    let start = group_start(group);
-    if 0xFFFF_FFFF_FFFF_FFFF - ALLOCATION_GROUP_BLOCKS < start {
-        return 0xFFFF_FFFF_FFFF_FFFF;
-    }
-    start + ALLOCATION_GROUP_BLOCKS
+    group_start(group).saturating_add(ALLOCATION_GROUP_BLOCKS)
 }
 
 // The blocks of a group that can never be allocated: those in the reserved bands at both ends of the volume and those past its end.
@@ -271,8 +254,8 @@ pub fn reserved_group_blocks(group: u64, blocks: u64) -> GroupBlocks
     let end = group_end(group);
     GroupBlocks {
         low_start: start,
-        low_end: lesser(end, RESERVED_BLOCKS),
-        high_start: greater(saturating_sub(blocks, RESERVED_BLOCKS), start),
+        low_end: end.min(RESERVED_BLOCKS),
+        high_start: blocks.saturating_sub(RESERVED_BLOCKS).max(start),
         high_end: end,
     }
 }

@@ -27,7 +27,7 @@ module _ (s : List ℕ) (p : ℕ) (whole : is_record (split_record (drop p s)) �
 
   pub whole_within : p + 4 + u16_at s p + u16_at s (p + 2) ≤ length s
   whole_within =
-      omega (arith, split_fits (drop p s) (key_len (drop p s)) (value_len (drop p s)) (record_is (drop p s) whole), length-drop p s, lengths_at.0, lengths_at.1)
+      omega (arith, split_fits (drop p s) _ (record_is (drop p s) whole), length-drop p s, lengths_at.0, lengths_at.1)
 
   size_at : p + size_of (split_record (drop p s)) ≡ p + 4 + u16_at s p + u16_at s (p + 2)
   size_at = rw (record_is (drop p s) whole) (omega (arith, lengths_at.0, lengths_at.1))

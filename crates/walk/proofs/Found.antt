@@ -17,7 +17,7 @@ use Rattle.lookup.specs.Record.{split_record, is_record, size_of, key_of}
 use Rattle.lookup.specs.Floor.{floor_at, answer_of, next_record}
 use Rattle.lookup.specs.Sorted.{offset_of, key_at, Sorted, key_above, IsFloor}
 use Rattle.lookup.specs.declared.Floor.{Floor}
-use Rattle.lookup.specs.declared.Floor.TheVariants.{At, Nothing}
+use Rattle.std.specs.Prelude.{Option, Some, None}
 use Rattle.walk.specs.Entries.{Entry, stored, end_to_end, Increasing, Fit, Read}
 use Rattle.walk.specs.Found.{Finding, found, first_of, answer_found, lookup_in}
 use Rattle.lookup.proofs.SortedLaws.{answers_same, floor_answers}
@@ -29,7 +29,7 @@ abbrev none : Entry
 none = record { key = []; value = [] }
 
 -- the record found, by a lookup's answer
-abbrev result : List Entry → Floor → Finding
+abbrev result : List Entry → Option Floor → Finding
 result es f = answer_found (end_to_end es) (answer_of (length (end_to_end es)) (length es) f)
 
 module _ (es : List Entry) (fit : (e : Entry) → Among e es → Fit e) where
@@ -61,25 +61,25 @@ module _ (es : List Entry) (fit : (e : Entry) → Among e es → Fit e) where
     increasing = λ i j l m. ap₂ order (key_at_lem i (omega arith)) (key_at_lem j m) ∙ increasing_at [] es none inc i j l m;
   }
 
-  result_at : (i o : ℕ) → i < length es → o ≡ offset_of (end_to_end es) i → result es (At i o) ≡ found (get_or es i none).key (get_or es i none).value
+  result_at : (i o : ℕ) → i < length es → o ≡ offset_of (end_to_end es) i → result es (Some (record { index = i; offset = o })) ≡ found (get_or es i none).key (get_or es i none).value
   result_at i o l e =
       ap (λ (n : ℕ). first_of (drop n (end_to_end es)) (length es - i)) e
       ∙ ap (λ (s : List ℕ). first_of s (length es - i)) (at_laid i l)
       ∙ first_stored (get_or es i none) (end_to_end (drop (suc i) es)) (small_at i l) (length es - i) (omega arith)
 
   -- what is found is an entry
-  found_among : (key : List ℕ) (f : Floor) → IsFloor (end_to_end es) (length es) key f → (x : Entry) → result es f ≡ found x.key x.value → Among x es
+  found_among : (key : List ℕ) (f : Option Floor) → IsFloor (end_to_end es) (length es) key f → (x : Entry) → result es f ≡ found x.key x.value → Among x es
   unfolding next_record
-  found_among key (At i o) a x e =
-      let h : found (get_or es i none).key (get_or es i none).value ≡ found x.key x.value = sym (result_at i o a.0 a.1) ∙ e in
-      let k : (get_or es i none).key ≡ x.key = cc in
-      let v : (get_or es i none).value ≡ x.value = cc in
-      let p : get_or es i none ≡ x = ap₂ (λ (k v : List ℕ). entry k v) k v in
-      Memᴰ.cast (sym p) (among_at es i none a.0)
+  found_among key (Some f) a x e =
+      let h : found (get_or es f.index none).key (get_or es f.index none).value ≡ found x.key x.value = sym (result_at f.index f.offset a.0 a.1) ∙ e in
+      let k : (get_or es f.index none).key ≡ x.key = cc in
+      let v : (get_or es f.index none).value ≡ x.value = cc in
+      let p : get_or es f.index none ≡ x = ap₂ (λ (k v : List ℕ). entry k v) k v in
+      Memᴰ.cast (sym p) (among_at es f.index none a.0)
     where
       entry : List ℕ → List ℕ → Entry
       entry k v = record { key = k; value = v }
-  found_among key Nothing a x e = let z : ◌≡◌ {A = ℕ} 0 1 = cc in absurd (omega arith)
+  found_among key None a x e = absurd cc
 
   -- the lookup of an entry's key finds the entry
   module _ (inc : Increasing [] es) (k : ℕ) (l : k < length es) where
@@ -93,16 +93,16 @@ module _ (es : List Entry) (fit : (e : Entry) → Among e es → Fit e) where
     above_later i m n =
         ap (λ (x : List ℕ). is_greater (order x sought)) (key_at_lem i n) ∙ ap is_greater (order_flip sought (get_or es i none).key (increasing_at [] es none inc k i m n))
 
-    at_found : (f : Floor) → IsFloor (end_to_end es) (length es) sought f → result es f ≡ found sought (get_or es k none).value
-    at_found (At i o) a = go (dec_lt i k) (dec_lt k i)
+    at_found : (f : Option Floor) → IsFloor (end_to_end es) (length es) sought f → result es f ≡ found sought (get_or es k none).value
+    at_found (Some f) a = go (dec_lt f.index k) (dec_lt k f.index)
       where
-        go : Dec (i < k) → Dec (k < i) → result es (At i o) ≡ found sought (get_or es k none).value
+        go : Dec (f.index < k) → Dec (k < f.index) → result es (Some f) ≡ found sought (get_or es k none).value
         go (yes m) n = absurd (true≢false (sym (a.3 k m l) ∙ not_above))
-        go (no m) (yes n) = absurd (true≢false (sym (above_later i n a.0) ∙ a.2))
+        go (no m) (yes n) = absurd (true≢false (sym (above_later f.index n a.0) ∙ a.2))
         go (no m) (no n) =
-            let e : i ≡ k = omega arith in
-            result_at i o a.0 a.1 ∙ ap (λ (j : ℕ). found (get_or es j none).key (get_or es j none).value) e
-    at_found Nothing a = absurd (true≢false (sym (a k l) ∙ not_above))
+            let e : f.index ≡ k = omega arith in
+            result_at f.index f.offset a.0 a.1 ∙ ap (λ (j : ℕ). found (get_or es j none).key (get_or es j none).value) e
+    at_found None a = absurd (true≢false (sym (a k l) ∙ not_above))
 
 -- the place of a member
 place : (es : List Entry) (x : Entry) → Among x es → (k : ℕ) × (k < length es) × (get_or es k none ≡ x)
@@ -112,7 +112,7 @@ place (e ∷ es) x (later m) =
     let r = place es x m in
     (suc r.0, omega (arith, r.1), r.2)
 
-member_found : (es : List Entry) → ((e : Entry) → Among e es → Fit e) → Increasing [] es → (x : Entry) → Among x es → (f : Floor) → IsFloor (end_to_end es) (length es) x.key f → result es f ≡ found x.key x.value
+member_found : (es : List Entry) → ((e : Entry) → Among e es → Fit e) → Increasing [] es → (x : Entry) → Among x es → (f : Option Floor) → IsFloor (end_to_end es) (length es) x.key f → result es f ≡ found x.key x.value
 member_found es fit inc x m f a =
     let r = place es x m in
     let b : IsFloor (end_to_end es) (length es) (get_or es r.0 none).key f = subst (λ (y : Entry). IsFloor (end_to_end es) (length es) y.key f) (sym r.2) a in
@@ -123,7 +123,7 @@ module _ (payload : List ℕ) (count : ℕ) (g : Read payload count) (small : le
   abbrev entries : List Entry
   entries = g.entries
 
-  abbrev floor : List ℕ → ℕ → Floor
+  abbrev floor : List ℕ → ℕ → Option Floor
   floor key n = floor_at (end_to_end entries) (length entries) key n
 
   answers : (key : List ℕ) (n : ℕ) → IsFloor (end_to_end entries) (length entries) key (floor key n)

@@ -9,12 +9,10 @@ use mathlib.Core.List.Memᴰ.{tail as later}
 use mathlib.Core.List.Pairwise
 use mathlib.Core.List.{List, [], ◌∷◌, ◌++◌, Nodup, Nodup-nil, Pairwise-cons, Memᴰ as Among}
 use mathlib.Mathlib.Data.Bool.Basic.{or-eq-false-eq-eq-false-and-eq-false as neither}
-use Prim.Native.Nat.{ℕ, ◌+◌, ◌<◌}
-use native.Mathlib.Numerals.{add-one}
+use Prim.Native.Nat.{ℕ}
 use borrow.Author.Tests.{eqb-false, ne_eqb}
 use lib.Dec.{eqb}
-use lib.ListN.{length, take, get_or}
-use lib.Seq.{take-suc}
+use Rattle.std.specs.List.{fold}
 use Rattle.walk.specs.Records.{is_one_of}
 
 -- one block more at the end
@@ -22,9 +20,13 @@ pub one_of_more : (n m : ℕ) (ms : List ℕ) → is_one_of n (ms ++ (m ∷ []))
 one_of_more n m [] = or-false (eqb m n)
 one_of_more n m (k ∷ ms) = ap (λ (b : Bool). eqb k n || b) (one_of_more n m ms) ∙ sym (or_assoc (eqb k n) (is_one_of n ms) (eqb m n))
 
--- one block more of those seen
-pub seen_more : (seen : List ℕ) (i n : ℕ) (hit : Bool) → i < length seen → hit ≡ is_one_of n (take i seen) → (hit || eqb (get_or seen i 0) n) ≡ is_one_of n (take (i + 1) seen)
-seen_more seen i n hit l e = rw (add-one i, take-suc seen i 0 l, e) (sym (one_of_more n (get_or seen i 0) (take i seen)))
+-- the blocks gone through one by one
+pub one_of_fold : (n : ℕ) (ms : List ℕ) → fold (λ (hit : Bool) (m : ℕ). hit || eqb m n) false ms ≡ is_one_of n ms
+one_of_fold n ms = go false ms
+  where
+    go : (hit : Bool) (ms : List ℕ) → fold (λ (hit : Bool) (m : ℕ). hit || eqb m n) hit ms ≡ (hit || is_one_of n ms)
+    go hit [] = sym (or-false hit)
+    go hit (m ∷ ms) = go (hit || eqb m n) ms ∙ or_assoc hit (eqb m n) (is_one_of n ms)
 
 -- ---- the children's blocks to come: none is among those seen, and no two are the same
 pub record Apart (seen ns : List ℕ) : Type 0 where

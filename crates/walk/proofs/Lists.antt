@@ -9,7 +9,7 @@ use native.Mathlib.Nat.{le_of_suc-le-suc, not-suc-le-zero}
 use native.Mathlib.Omega.{arith}
 use lib.ListN.{length, get_or}
 use Rattle.octets.specs.Order.{order}
-use Rattle.octets.specs.declared.Order.TheVariants.{Less, Equal}
+use Rattle.std.specs.declared.cmp.Ordering.TheVariants.{Less, Equal}
 use Rattle.walk.specs.Entries.{Entry, Increasing}
 use Rattle.octets.proofs.OrderLaws.{order_same, order_trans}
 

@@ -11,7 +11,7 @@ use Rattle.octets.specs.Number.{little_bytes, field}
 use Rattle.octets.proofs.Join.{part_length}
 use Rattle.lookup.specs.Record.{key_len, value_len, record_len, key_of, value_of, split_record}
 use Rattle.lookup.specs.Floor.{next_record}
-use Rattle.lookup.specs.declared.Split.TheVariants.{Record}
+use Rattle.std.specs.Prelude.{Some}
 use Rattle.lookup.proofs.RecordLaws.{split_record_lem}
 use Rattle.walk.specs.Entries.{Entry, stored}
 use Rattle.walk.specs.Found.{found, first_of}
@@ -41,7 +41,7 @@ module _ (e : Entry) (r : List ℕ) where
     unfolding field
     value_read = omega arith
 
-    pub split_stored : split_record (stored e ++ r) ≡ Record (length e.key) (length e.value)
+    pub split_stored : split_record (stored e ++ r) ≡ Some (record { key_len = length e.key; value_len = length e.value })
     split_stored = sym (split_record_lem (stored e ++ r) _ _ (sym key_read) (sym value_read) (omega (arith, stored_length e, length-append (stored e) r)))
 
     pub key_stored : key_of (stored e ++ r) ≡ e.key

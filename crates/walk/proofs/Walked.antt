@@ -12,17 +12,17 @@ use lib.Dec.{leb, eqb}
 use lib.ListN.{length, take, drop, length-drop, length-append, length-take, take-append-drop}
 use lib.Seq.{take-add, take-append_seam, drop-append_seam}
 use Rattle.error.specs.declared.Validation.{Validation}
-use Rattle.error.specs.declared.Check.TheVariants.{Passed}
-use Rattle.error.specs.declared.Number.{Number}
+use Rattle.std.specs.Prelude.{Ok}
+use Rattle.error.specs.Answer.{Number}
 use Rattle.error.specs.Answer.{violation_of, number_check, number_of}
 use Rattle.error.specs.Demand.{Demand, ◌otherwise◌, outcome, AllHold}
 use Rattle.error.specs.Reason as reason
 use Rattle.error.proofs.Tests.{and_both}
-use Rattle.error.proofs.Exactly.{all_hold, all_pass, passed_is, passed_test, outcome_holds, answer_passed}
+use Rattle.error.proofs.Exactly.{all_hold, all_pass, passed_is, passed_test, number_passed, number_test, outcome_holds, answer_passed}
 use Rattle.octets.specs.Bytes.{Bytes}
 use Rattle.octets.proofs.Digits.{bytes_part, bytes_drop}
 use Rattle.octets.specs.Order.{order, is_less}
-use Rattle.octets.specs.declared.Order.TheVariants.{Less}
+use Rattle.std.specs.declared.cmp.Ordering.TheVariants.{Less}
 use Rattle.volume.specs.Numbers.{largest}
 use Rattle.lookup.specs.Record.{key_len, value_len, record_len, key_of, value_of}
 use Rattle.walk.specs.Records.{Own, form_demands, form_check, is_one_of, next_total, next_blocks, join_demands, join_check, own_answer, record_demands, walk, size_demands, records}
@@ -33,9 +33,9 @@ use Rattle.walk.proofs.Turns.{Formed, formed}
 use Rattle.walk.proofs.Whole.{is_walk}
 
 -- all demands held, and the answer stands
-answered : (ds : List Demand) (r : Number) (n : ℕ) → outcome ds Number.Refused r ≡ Number.Value n → AllHold ds × (r ≡ Number.Value n)
+answered : (ds : List Demand) (r : Number) (n : ℕ) → outcome ds r ≡ Ok n → AllHold ds × (r ≡ Ok n)
 answered ds r n e =
-    let h = answer_passed ds Number.Refused r (Number.Value n) (λ x p. let z : ◌≡◌ {A = ℕ} 0 1 = cc in omega arith) e in
+    let h = answer_passed ds r n e in
     (all_hold ds h.0, h.1)
 
 -- what is read from here on
@@ -45,7 +45,7 @@ record From (leaf : Bool) (own : Own) (rest : List ℕ) (left n : ℕ) (previous
   are : end_to_end entries ≡ take left rest
   increasing : Increasing previous entries
   fit : (e : Entry) → Among e entries → Fit e
-  obey : (e : Entry) → Among e entries → number_check (own e.key e.value) ≡ Passed
+  obey : (e : Entry) → Among e entries → number_check (own e.key e.value) ≡ Ok tt
   leaf_total : leaf ≡ true → answer ≡ total + sum ◌+◌ 0 (numbers own entries)
   leaf_small : leaf ≡ true → total < 2 ^ 64 → answer < 2 ^ 64
   internal_total : leaf ≡ false → answer ≡ total
@@ -67,11 +67,11 @@ none_left leaf own rest left previous total seen answer z t = record {
 }
 
 -- what the last check of a record says: a child's block is none of those before it, a leaf's total stays small
-fresh_block : (mode : Validation) (total : ℕ) (seen : List ℕ) (n : ℕ) → join_check false total seen n mode ≡ Passed → is_one_of n seen ≡ false
+fresh_block : (mode : Validation) (total : ℕ) (seen : List ℕ) (n : ℕ) → join_check false total seen n mode ≡ Ok tt → is_one_of n seen ≡ false
 unfolding join_check
 fresh_block mode total seen n e = not-true (is_one_of n seen) (all_hold (join_demands false total seen n mode) e).0
 
-small_total : (mode : Validation) (total : ℕ) (seen : List ℕ) (n : ℕ) → join_check true total seen n mode ≡ Passed → total + n < 2 ^ 64
+small_total : (mode : Validation) (total : ℕ) (seen : List ℕ) (n : ℕ) → join_check true total seen n mode ≡ Ok tt → total + n < 2 ^ 64
 unfolding join_check
 small_total mode total seen n e = omega (arith, leb-true (total + n) largest (all_hold (join_demands true total seen n mode) e).0)
 
@@ -80,7 +80,7 @@ members f e es h k x (here p) = subst f (sym p) h
 members f e es h k x (later m) = k x m
 
 module _ (leaf : Bool) (mode : Validation) (own : Own) (rest : List ℕ) (left n : ℕ) (previous : List ℕ) (total : ℕ) (seen : List ℕ) (answer : ℕ) where
-  one_more : Bytes rest → left ≤ length rest → Formed rest left previous mode → number_check (own_answer own rest) ≡ Passed → join_check leaf total seen (number_of (own_answer own rest)) mode ≡ Passed
+  one_more : Bytes rest → left ≤ length rest → Formed rest left previous mode → number_check (own_answer own rest) ≡ Ok tt → join_check leaf total seen (number_of (own_answer own rest)) mode ≡ Ok tt
       → From leaf own (drop (record_len rest) rest) (left - record_len rest) n (key_of rest) (next_total leaf total (number_of (own_answer own rest))) (next_blocks leaf seen (number_of (own_answer own rest))) answer
       → From leaf own rest left (suc n) previous total seen answer
   unfolding flat_map sum
@@ -102,26 +102,26 @@ module _ (leaf : Bool) (mode : Validation) (own : Own) (rest : List ℕ) (left n
           key_bytes = bytes_part rest 4 (key_len rest) b;
           value_bytes = bytes_part rest (4 + key_len rest) (value_len rest) b;
         }) more.fit;
-        obey = members (λ (x : Entry). number_check (own x.key x.value) ≡ Passed) e more.entries o more.obey;
+        obey = members (λ (x : Entry). number_check (own x.key x.value) ≡ Ok tt) e more.entries o more.obey;
         leaf_total = λ p.
             let t : next_total leaf total m ≡ total + m = ap (λ (x : Bool). next_total x total m) p in
             omega (arith, more.leaf_total p);
         leaf_small = λ p t.
             let x : next_total leaf total m ≡ total + m = ap (λ (x : Bool). next_total x total m) p in
-            let y : total + m < 2 ^ 64 = small_total mode total seen m (subst (λ (x : Bool). join_check x total seen m mode ≡ Passed) p j) in
+            let y : total + m < 2 ^ 64 = small_total mode total seen m (subst (λ (x : Bool). join_check x total seen m mode ≡ Ok tt) p j) in
             more.leaf_small p (omega arith);
         internal_total = λ p. more.internal_total p ∙ ap (λ (x : Bool). next_total x total m) p;
         distinct = λ p.
-            apart_more seen m (numbers own more.entries) (fresh_block mode total seen m (subst (λ (x : Bool). join_check x total seen m mode ≡ Passed) p j))
+            apart_more seen m (numbers own more.entries) (fresh_block mode total seen m (subst (λ (x : Bool). join_check x total seen m mode ≡ Ok tt) p j))
             (subst (λ (s : List ℕ). Apart s (numbers own more.entries)) (ap (λ (x : Bool). next_blocks x seen m) p) (more.distinct p));
       }
 
 walk_from : (leaf : Bool) (mode : Validation) (own : Own) (n : ℕ) (rest : List ℕ) (left : ℕ) (previous : List ℕ) (total : ℕ) (seen : List ℕ) (answer : ℕ)
-    → Bytes rest → left ≤ length rest → walk leaf mode own n rest left previous total seen ≡ Number.Value answer → From leaf own rest left n previous total seen answer
+    → Bytes rest → left ≤ length rest → walk leaf mode own n rest left previous total seen ≡ Ok answer → From leaf own rest left n previous total seen answer
 unfolding walk
 walk_from leaf mode own zero rest left previous total seen answer b l e =
-    let a = answered (eqb left 0 otherwise violation_of mode reason.payload_has_unconsumed_bytes ∷ []) (Number.Value total) answer e in
-    let v : Number.Value total ≡ Number.Value answer = a.1 in
+    let a = answered (eqb left 0 otherwise violation_of mode reason.payload_has_unconsumed_bytes ∷ []) (Ok total) answer e in
+    let v : Ok total ≡ Ok answer = a.1 in
     let t : total ≡ answer = cc in
     none_left leaf own rest left previous total seen answer (eqb-true left 0 a.0.0) t
 walk_from leaf mode own (suc n) rest left previous total seen answer b l e =
@@ -131,10 +131,10 @@ walk_from leaf mode own (suc n) rest left previous total seen answer b l e =
     let next-seen : List ℕ = next_blocks leaf seen m in
     let a = answered (record_demands leaf mode own rest left previous total seen) (walk leaf mode own n (drop size rest) (left - size) (key_of rest) next-total next-seen) answer e in
     one_more leaf mode own rest left n previous total seen answer b l (formed rest left previous mode (passed_is (form_check rest left previous mode) a.0.0))
-    (passed_is (number_check (own_answer own rest)) a.0.1.0) (passed_is (join_check leaf total seen m mode) a.0.1.1.0)
+    (number_passed (own_answer own rest) a.0.1.0) (passed_is (join_check leaf total seen m mode) a.0.1.1.0)
     (walk_from leaf mode own n (drop size rest) (left - size) (key_of rest) next-total next-seen answer (bytes_drop rest size b) (rw length-drop (omega arith)) a.1)
 
-pub walk_reads : (leaf : Bool) (mode : Validation) (own : Own) (rest : List ℕ) (payload_length count total : ℕ) → Bytes rest → records leaf mode own rest payload_length count ≡ Number.Value total → Walked leaf own rest payload_length count total
+pub walk_reads : (leaf : Bool) (mode : Validation) (own : Own) (rest : List ℕ) (payload_length count total : ℕ) → Bytes rest → records leaf mode own rest payload_length count ≡ Ok total → Walked leaf own rest payload_length count total
 unfolding records
 walk_reads leaf mode own rest payload_length count total b e =
     let a = answered (size_demands rest payload_length count mode) (walk leaf mode own count rest payload_length [] 0 []) total e in
@@ -191,7 +191,7 @@ module _ (e : Entry) (es : List Entry) (rest : List ℕ) (left : ℕ) (l : left 
       ahead : take (length (end_to_end es)) behind ≡ end_to_end es
       ahead = take-append_seam (end_to_end es) (drop left rest)
 
-  form_holds : (previous : List ℕ) (mode : Validation) → order previous e.key ≡ Less → form_check rest left previous mode ≡ Passed
+  form_holds : (previous : List ℕ) (mode : Validation) → order previous e.key ≡ Less → form_check rest left previous mode ≡ Ok tt
   unfolding form_check
   form_holds previous mode o =
       let k : key_len rest ≡ length e.key = ap key_len front ∙ key_read e behind f.size in
@@ -220,11 +220,11 @@ module _ (e : Entry) (es : List Entry) (rest : List ℕ) (left : ℕ) (l : left 
   number_is : (own : Own) → own_answer own rest ≡ own e.key e.value
   number_is own = ap₂ own key_is value_is
 
-join_leaf : (mode : Validation) (total : ℕ) (seen : List ℕ) (n : ℕ) → total + n < 2 ^ 64 → join_check true total seen n mode ≡ Passed
+join_leaf : (mode : Validation) (total : ℕ) (seen : List ℕ) (n : ℕ) → total + n < 2 ^ 64 → join_check true total seen n mode ≡ Ok tt
 unfolding join_check
 join_leaf mode total seen n h = all_pass (join_demands true total seen n mode) (le-leb (total + n) largest (omega arith), tt)
 
-join_child : (mode : Validation) (total : ℕ) (seen : List ℕ) (n : ℕ) → is_one_of n seen ≡ false → join_check false total seen n mode ≡ Passed
+join_child : (mode : Validation) (total : ℕ) (seen : List ℕ) (n : ℕ) → is_one_of n seen ≡ false → join_check false total seen n mode ≡ Ok tt
 unfolding join_check
 join_child mode total seen n h = all_pass (join_demands false total seen n mode) (ap not h, tt)
 
@@ -236,7 +236,7 @@ record Owed (leaf : Bool) (own : Own) (es : List Entry) (total : ℕ) (seen : Li
   distinct : leaf ≡ false → Apart seen (numbers own es)
 
 owed_join : (leaf : Bool) (mode : Validation) (own : Own) (e : Entry) (es : List Entry) (total : ℕ) (seen : List ℕ) (answer : ℕ) → Owed leaf own (e ∷ es) total seen answer
-    → join_check leaf total seen (number_of (own e.key e.value)) mode ≡ Passed
+    → join_check leaf total seen (number_of (own e.key e.value)) mode ≡ Ok tt
 unfolding sum
 owed_join true mode own e es total seen answer h = join_leaf mode total seen (number_of (own e.key e.value)) (omega (arith, h.leaf_total refl, h.leaf_small refl))
 owed_join false mode own e es total seen answer h = join_child mode total seen (number_of (own e.key e.value)) ((h.distinct refl).new (number_of (own e.key e.value)) (here refl))
@@ -263,27 +263,27 @@ owed_end true own total seen answer h = omega (arith, h.leaf_total refl)
 owed_end false own total seen answer h = sym (h.internal_total refl)
 
 walk_to : (leaf : Bool) (mode : Validation) (own : Own) (es : List Entry) (rest : List ℕ) (left : ℕ) (previous : List ℕ) (total : ℕ) (seen : List ℕ) (answer : ℕ)
-    → left ≤ length rest → end_to_end es ≡ take left rest → Increasing previous es → ((e : Entry) → Among e es → Fit e) → ((e : Entry) → Among e es → number_check (own e.key e.value) ≡ Passed)
-    → Owed leaf own es total seen answer → walk leaf mode own (length es) rest left previous total seen ≡ Number.Value answer
+    → left ≤ length rest → end_to_end es ≡ take left rest → Increasing previous es → ((e : Entry) → Among e es → Fit e) → ((e : Entry) → Among e es → number_check (own e.key e.value) ≡ Ok tt)
+    → Owed leaf own es total seen answer → walk leaf mode own (length es) rest left previous total seen ≡ Ok answer
 unfolding walk flat_map
 walk_to leaf mode own [] rest left previous total seen answer l are inc fit obey owed =
-    outcome_holds (eqb left 0 otherwise violation_of mode reason.payload_has_unconsumed_bytes ∷ []) Number.Refused (Number.Value total) (eq-eqb left 0 (omega (arith, length-take left rest, ap length are)), tt)
-    ∙ ap Number.Value (owed_end leaf own total seen answer owed)
+    outcome_holds (eqb left 0 otherwise violation_of mode reason.payload_has_unconsumed_bytes ∷ []) (Ok total) (eq-eqb left 0 (omega (arith, length-take left rest, ap length are)), tt)
+    ∙ ap Ok (owed_end leaf own total seen answer owed)
 walk_to leaf mode own (e ∷ es) rest left previous total seen answer l are inc fit obey owed =
     let o : own_answer own rest ≡ own e.key e.value = number_is e es rest left l are (fit e (here refl)) own in
     let n : number_of (own_answer own rest) ≡ number_of (own e.key e.value) = ap number_of o in
-    let f : form_check rest left previous mode ≡ Passed = form_holds e es rest left l are (fit e (here refl)) previous mode inc.0 in
-    let j : join_check leaf total seen (number_of (own_answer own rest)) mode ≡ Passed = ap (λ (m : ℕ). join_check leaf total seen m mode) n ∙ owed_join leaf mode own e es total seen answer owed in
+    let f : form_check rest left previous mode ≡ Ok tt = form_holds e es rest left l are (fit e (here refl)) previous mode inc.0 in
+    let j : join_check leaf total seen (number_of (own_answer own rest)) mode ≡ Ok tt = ap (λ (m : ℕ). join_check leaf total seen m mode) n ∙ owed_join leaf mode own e es total seen answer owed in
     let more : Owed leaf own es (next_total leaf total (number_of (own_answer own rest))) (next_blocks leaf seen (number_of (own_answer own rest))) answer =
     subst (λ (m : ℕ). Owed leaf own es (next_total leaf total m) (next_blocks leaf seen m) answer) (sym n) (owed_on leaf own e es total seen answer owed) in
-    outcome_holds (record_demands leaf mode own rest left previous total seen) Number.Refused
+    outcome_holds (record_demands leaf mode own rest left previous total seen)
     (walk leaf mode own (length es) (drop (record_len rest) rest) (left - record_len rest) (key_of rest) (next_total leaf total (number_of (own_answer own rest))) (next_blocks leaf seen (number_of (own_answer own rest))))
-    (passed_test (form_check rest left previous mode) f, (passed_test (number_check (own_answer own rest)) (ap number_check o ∙ obey e (here refl)), (passed_test (join_check leaf total seen (number_of (own_answer own rest)) mode) j, tt)))
+    (passed_test (form_check rest left previous mode) tt f, (number_test (own_answer own rest) (ap number_check o ∙ obey e (here refl)), (passed_test (join_check leaf total seen (number_of (own_answer own rest)) mode) tt j, tt)))
     ∙ walk_to leaf mode own es (drop (record_len rest) rest) (left - record_len rest) (key_of rest) (next_total leaf total (number_of (own_answer own rest))) (next_blocks leaf seen (number_of (own_answer own rest))) answer
     (rw length-drop (omega arith)) (rest_are e es rest left l are (fit e (here refl))) (subst (λ (k : List ℕ). Increasing k es) (sym (key_is e es rest left l are (fit e (here refl)))) inc.1)
     (λ x m. fit x (later m)) (λ x m. obey x (later m)) more
 
-walk_accepts : (leaf : Bool) (mode : Validation) (own : Own) (rest : List ℕ) (payload_length count total : ℕ) → Walked leaf own rest payload_length count total → records leaf mode own rest payload_length count ≡ Number.Value total
+walk_accepts : (leaf : Bool) (mode : Validation) (own : Own) (rest : List ℕ) (payload_length count total : ℕ) → Walked leaf own rest payload_length count total → records leaf mode own rest payload_length count ≡ Ok total
 walk_accepts leaf mode own rest payload_length count total w =
     let few : count ≤ payload_length / 4 = omega (arith, w.inside, w.read.many, laid_long w.read.entries, ap length w.read.are, length-take payload_length rest) in
     is_walk leaf mode own rest payload_length count few w.inside

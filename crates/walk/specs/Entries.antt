@@ -2,13 +2,12 @@
 use Rattle.std.specs.Prelude.{ℕ, ◌+◌, ◌^◌, ◌≤◌, ◌<◌, ◌≡◌, ◌↔◌, Bool, true, false, length, take}
 use mathlib.Core.List.{List, [], ◌∷◌, ◌++◌, map, flat_map, sum, Nodup, Memᴰ as Among}
 use Rattle.error.specs.declared.Validation.{Validation}
-use Rattle.error.specs.declared.Check.TheVariants.{Passed}
-use Rattle.error.specs.declared.Number.{Number}
+use Rattle.std.specs.Prelude.{Ok}
 use Rattle.error.specs.Answer.{number_check, number_of}
 use Rattle.octets.specs.Bytes.{Bytes}
 use Rattle.octets.specs.Number.{little_bytes}
 use Rattle.octets.specs.Order.{order}
-use Rattle.octets.specs.declared.Order.TheVariants.{Less}
+use Rattle.std.specs.declared.cmp.Ordering.TheVariants.{Less}
 use Rattle.walk.specs.Records.{Own, records}
 
 -- a record's key and value
@@ -55,7 +54,7 @@ numbers own es = map (λ (e : Entry). number_of (own e.key e.value)) es
 pub record Walked (leaf : Bool) (own : Own) (rest : List ℕ) (payload_length count total : ℕ) : Type 0 where
   pub inside : payload_length ≤ length rest
   pub read : Read (take payload_length rest) count
-  pub obey : (e : Entry) → Among e read.entries → number_check (own e.key e.value) ≡ Passed
+  pub obey : (e : Entry) → Among e read.entries → number_check (own e.key e.value) ≡ Ok tt
   pub leaf_total : leaf ≡ true → total ≡ sum ◌+◌ 0 (numbers own read.entries)
   pub leaf_small : leaf ≡ true → total < 2 ^ 64
   pub internal_total : leaf ≡ false → total ≡ 0
@@ -65,4 +64,4 @@ pub record Walked (leaf : Bool) (own : Own) (rest : List ℕ) (payload_length co
 abbrev pub WalkedExactly : Type 0
 WalkedExactly =
     (leaf : Bool) (mode : Validation) (own : Own) (rest : List ℕ) (payload_length count total : ℕ)
-    → Bytes rest → (records leaf mode own rest payload_length count ≡ Number.Value total) ↔ Walked leaf own rest payload_length count total
+    → Bytes rest → (records leaf mode own rest payload_length count ≡ Ok total) ↔ Walked leaf own rest payload_length count total

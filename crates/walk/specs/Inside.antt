@@ -1,34 +1,31 @@
 -- What private functions promise. No public promise rests on these.
-use Rattle.std.specs.Prelude.{ℕ, zero, suc, ◌+◌, ◌≤◌, ◌<◌, ◌≡◌, Bool, true, cond, List, [], ◌∷◌, ◌++◌, length, take, drop}
+use Rattle.std.specs.Prelude.{ℕ, zero, suc, ◌+◌, ◌≤◌, ◌<◌, ◌≡◌, Bool, true, cond, List, [], ◌∷◌, ◌++◌, length, take, drop, Result, Ok}
+use Rattle.error.specs.declared.Error.{Error}
 use Rattle.error.specs.declared.Validation.{Validation}
-use Rattle.error.specs.Answer.{number_of}
-use Rattle.error.specs.Demand.{outcome}
+use Rattle.error.specs.Answer.{Number, number_of}
+use Rattle.error.specs.Demand.{passing, outcome}
 use Rattle.octets.specs.Number.{u64_at}
 use Rattle.lookup.specs.Record.{key_len, value_len, split_record, is_record}
 use Rattle.lookup.specs.Sorted.{offset_of}
-use Rattle.walk.specs.Records.{Own, form_demands, own_answer, join_demands, record_demands}
-use Rattle.walk.specs.declared.Form.{Form}
+use Rattle.lookup.specs.declared.Lengths.{Lengths}
+use Rattle.walk.specs.Records.{Own, form_demands, form_check, own_answer, join_demands, next_total}
 use Rattle.walk.specs.declared.Turn.{Turn}
 
 -- ---- one turn of the walk: the checks of `Records`, with the numbers that the next turn needs
 
 -- the lengths of a record whose form is right
-unfoldable pub form_of : List ℕ → ℕ → List ℕ → Validation → Form
-form_of rest left previous mode = outcome (form_demands rest left previous mode) Form.Refused (Form.Sized (key_len rest) (value_len rest))
+unfoldable pub form_of : List ℕ → ℕ → List ℕ → Validation → Result Lengths Error
+form_of rest left previous mode = outcome (form_demands rest left previous mode) (Ok (record { key_len = key_len rest; value_len = value_len rest }))
 
--- the total with a leaf's count added, or a child's block
-abbrev pub joined : Bool → ℕ → ℕ → ℕ
-joined leaf total n = cond leaf (total + n) n
+-- the same with the number of a record that passes its own rules too
+unfoldable pub turn_of : Validation → Own → List ℕ → ℕ → List ℕ → Result Turn Error
+turn_of mode own rest left previous =
+    outcome (passing (form_check rest left previous mode) ∷ passing (own_answer own rest) ∷ [])
+    (Ok (record { key_len = key_len rest; value_len = value_len rest; number = number_of (own_answer own rest) }))
 
--- that number with the lengths k and v of a record, where it fits those of the earlier records
-unfoldable pub join_of : Bool → ℕ → ℕ → ℕ → List ℕ → ℕ → Validation → Turn
-join_of leaf k v total seen n mode = outcome (join_demands leaf total seen n mode) Turn.Refused (Turn.Passed k v (joined leaf total n))
-
--- all checks of a record, with the lengths and that number
-unfoldable pub turn_of : Bool → Validation → Own → List ℕ → ℕ → List ℕ → ℕ → List ℕ → Turn
-turn_of leaf mode own rest left previous total seen =
-    outcome (record_demands leaf mode own rest left previous total seen) Turn.Refused
-    (Turn.Passed (key_len rest) (value_len rest) (joined leaf total (number_of (own_answer own rest))))
+-- the total after a record whose number fits those of the earlier records
+unfoldable pub join_of : Bool → ℕ → List ℕ → ℕ → Validation → Number
+join_of leaf total seen n mode = outcome (join_demands leaf total seen n mode) (Ok (next_total leaf total n))
 
 -- ---- the children's blocks of the first records, as they are stored: the first 8 bytes of each value
 
@@ -40,6 +37,10 @@ stored_block s = u64_at s (4 + key_len s)
 unfoldable pub stored_blocks : List ℕ → ℕ → List ℕ
 stored_blocks rest zero = []
 stored_blocks rest (suc n) = stored_blocks rest n ++ (stored_block (drop (offset_of rest n) rest) ∷ [])
+
+-- the children's blocks so far; a leaf has none
+abbrev pub blocks_of : Bool → List ℕ → ℕ → List ℕ
+blocks_of leaf rest n = cond leaf [] (stored_blocks rest n)
 
 -- the first n records are whole
 abbrev pub Whole : List ℕ → ℕ → Type 0

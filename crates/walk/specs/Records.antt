@@ -1,11 +1,12 @@
 -- The walk over a page's records (01, section 5, in the order of `validate_records`). It goes record by record: `rest` is the block from the next record to the block's end, of which
 -- the first `left` bytes belong to the payload. A record's two lengths are read even where they lie behind the payload's end.
+use Rattle.std.specs.Prelude.{Ok}
 use Rattle.std.specs.Prelude.{ℕ, zero, suc, ◌+◌, ◌-◌, ◌/◌, Bool, false, not, ◌&&◌, ◌||◌, cond, List, [], ◌∷◌, ◌++◌, leb, eqb, length, drop}
 use Rattle.error.specs.declared.Error.TheVariants.{Corrupt}
 use Rattle.error.specs.declared.Validation.{Validation}
-use Rattle.error.specs.declared.Check.{Check}
-use Rattle.error.specs.declared.Number.{Number}
-use Rattle.error.specs.Answer.{violation_of, number_check, number_of}
+use Rattle.error.specs.Answer.{Check}
+use Rattle.error.specs.Answer.{Number}
+use Rattle.error.specs.Answer.{violation_of, number_of}
 use Rattle.error.specs.Demand.{Demand, ◌otherwise◌, passing, outcome, demands}
 use Rattle.error.specs.Reason as reason
 use Rattle.octets.specs.Number.{within}
@@ -71,7 +72,7 @@ join_check leaf total seen n mode = demands (join_demands leaf total seen n mode
 abbrev pub record_demands : Bool → Validation → Own → List ℕ → ℕ → List ℕ → ℕ → List ℕ → List Demand
 record_demands leaf mode own rest left previous total seen =
     passing (form_check rest left previous mode)
-    ∷ passing (number_check (own_answer own rest))
+    ∷ passing (own_answer own rest)
     ∷ passing (join_check leaf total seen (number_of (own_answer own rest)) mode)
     ∷ []
 
@@ -89,9 +90,9 @@ next_blocks leaf seen n = cond leaf seen (seen ++ (n ∷ []))
 -- end nothing of the payload is left, and the answer is the total
 unfoldable pub walk : Bool → Validation → Own → ℕ → List ℕ → ℕ → List ℕ → ℕ → List ℕ → Number
 walk leaf mode own zero rest left previous total seen =
-    outcome (eqb left 0 otherwise violation_of mode reason.payload_has_unconsumed_bytes ∷ []) Number.Refused (Number.Value total)
+    outcome (eqb left 0 otherwise violation_of mode reason.payload_has_unconsumed_bytes ∷ []) (Ok total)
 walk leaf mode own (suc n) rest left previous total seen =
-    outcome (record_demands leaf mode own rest left previous total seen) Number.Refused
+    outcome (record_demands leaf mode own rest left previous total seen)
     (walk leaf mode own n (drop (record_len rest) rest) (left - record_len rest) (key_of rest)
     (next_total leaf total (number_of (own_answer own rest))) (next_blocks leaf seen (number_of (own_answer own rest))))
 
@@ -105,7 +106,7 @@ size_demands rest payload_length count mode =
 -- these tests, and then the walk from the first record on
 unfoldable pub records : Bool → Validation → Own → List ℕ → ℕ → ℕ → Number
 records leaf mode own rest payload_length count =
-    outcome (size_demands rest payload_length count mode) Number.Refused (walk leaf mode own count rest payload_length [] 0 [])
+    outcome (size_demands rest payload_length count mode) (walk leaf mode own count rest payload_length [] 0 [])
 
 -- page kind 1 is a leaf; any other counts as internal
 abbrev pub is_leaf : RecordValidation → Bool

@@ -14,15 +14,15 @@ overflow_cast-result c = omega (arith, mask_lt c.args.x 8)
 pub overflow_add-result : goal.overflow_add-result
 overflow_add-result c = omega (arith, mask_lt c.args.x 8)
 
-pub offset_bounds-t-k : goal.offset_bounds-t-k
-offset_bounds-t-k c = omega (arith, mask_lt c.args.x 8)
+pub offset_bounds-tables-k : goal.offset_bounds-tables-k
+offset_bounds-tables-k c = omega (arith, mask_lt c.args.x 8)
 
-pub bounds-t-k : goal.bounds-t-k
-bounds-t-k c = omega (arith, mask_lt c.args.x 8)
+pub bounds-tables-k : goal.bounds-tables-k
+bounds-tables-k c = omega (arith, mask_lt c.args.x 8)
 
 pub returns : goal.returns
 unfolding IsTables
 returns c =
-    c.requires.1 c.args.k (bit_and c.args.x 255) c.requires.0 (mask_lt c.args.x 8)
+    c.tables.ensures c.args.k (bit_and c.args.x 255) c.requires (mask_lt c.args.x 8)
     ∙ extend_entry c.args.k (bit_and c.args.x 255)
     ∙ ap (step_bits (8 * (c.args.k + 1))) (and_mask c.args.x 8)

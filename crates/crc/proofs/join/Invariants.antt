@@ -1,12 +1,9 @@
--- Invariant: the bits of `first` from `k` on are still to go through the zero bytes of a lane, and what the others gave is in `r`.
+-- The bits of `first` from `k` on are still to go through the zero bytes of a lane, and what the others gave is in `r`.
 use mathlib.Core.Path.{◌≡◌}
-use Prim.Native.Nat.{◌-◌, ◌*◌, ◌/◌, ◌^◌, ◌≤◌}
+use Prim.Native.Nat.{◌*◌, ◌/◌, ◌^◌}
 use Rattle.crc.specs.Inside.{past_lane}
 use Rattle.crc.proofs.Xor.{◌⊕◌}
 use Rattle.crc.proofs.join.Given as goal
 
 abbrev pub invariant-loop-k : goal.invariant-loop-k
-invariant-loop-k l = (l.k ≤ 32) × (past_lane l.first ⊕ l.second ≡ past_lane (l.first / 2 ^ l.k * 2 ^ l.k) ⊕ l.r)
-
-abbrev pub decreases-loop-k : goal.decreases-loop-k
-decreases-loop-k l = 32 - l.k
+invariant-loop-k l = past_lane l.first ⊕ l.second ≡ past_lane (l.first / 2 ^ l.k * 2 ^ l.k) ⊕ l.r

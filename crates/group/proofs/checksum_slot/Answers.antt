@@ -1,25 +1,22 @@
-use Rattle.error.proofs.Chain.{chain}
-use Rattle.group.specs.Group.{checksum_slot}
+use mathlib.Core.Path.{sym}
+use native.Mathlib.Omega.{arith}
+use Rattle.std.proofs.lemmas.Result.{err_from_is_err_and}
 use Rattle.octets.proofs.Bit.{mask_clear, mask_set}
-use Rattle.group.proofs.Bitmap.{word_same}
+use Rattle.group.proofs.Slots.{slot_hole, word_read, word_refused}
 use Rattle.group.proofs.checksum_slot.Goals as goal
 
-pub returns-then-slot-ge256 : goal.returns-then-slot-ge256
-unfolding checksum_slot
-returns-then-slot-ge256 c = search (mask_clear, mask_set, word_same, chain) depth 12
-
-pub returns-then-group-lt32 : goal.returns-then-group-lt32
-unfolding checksum_slot
-returns-then-group-lt32 c = search (mask_clear, mask_set, word_same, chain) depth 12
-
 pub returns-then-group-slot-eq0 : goal.returns-then-group-slot-eq0
-unfolding checksum_slot
-returns-then-group-slot-eq0 c = search (mask_clear, mask_set, word_same, chain) depth 12
+returns-then-group-slot-eq0 c =
+    let a = c.args in
+    sym (slot_hole a.group.now a.slot (omega arith) (omega arith) (mask_clear a.group.now a.slot c.if-group-slot-eq0.true))
 
-pub returns-then-group-slot : goal.returns-then-group-slot
-unfolding checksum_slot
-returns-then-group-slot c = search (mask_clear, mask_set, word_same, chain) depth 12
+pub returns-in_err-word : goal.returns-in_err-word
+returns-in_err-word c =
+    let a = c.args in
+    let p = err_from_is_err_and c.from_residual.result c.from_residual.ensures.1 in
+    rw (p.1, p.2) (word_refused a.group.now a.slot (omega arith) (omega arith) (mask_set a.group.now a.slot c.if-group-slot-eq0.false) c.read_u32_le.result c.read_u32_le.ensures _ c.in_err-word.was)
 
 pub returns : goal.returns
-unfolding checksum_slot
-returns c = search (mask_clear, mask_set, word_same, chain) depth 12
+returns c =
+    let a = c.args in
+    word_read a.group.now a.slot (omega arith) (omega arith) (mask_set a.group.now a.slot c.if-group-slot-eq0.false) c.read_u32_le.result c.read_u32_le.ensures _ c.in_ok-word.was

@@ -1,8 +1,9 @@
-use Rattle.group.proofs.Holes.{eight_present, eight_joined}
+use mathlib.Core.Path.{◌≡◌}
+use native.Mathlib.Omega.{arith}
+use Rattle.group.proofs.Holes.{eight_told}
 use Rattle.group.proofs.eight_zero.Goals as goal
 
-pub returns-then-bits : goal.returns-then-bits
-returns-then-bits c = search eight_present
-
 pub returns : goal.returns
-returns c = search eight_joined
+returns c =
+    let n : c.loop-j.j ≡ 8 = omega arith in
+    eight_told c.args.group.now c.args.k c.requires.0 c.loop-j.zero (rw n at c.loop-j.invariant)

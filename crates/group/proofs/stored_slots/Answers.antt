@@ -1,37 +1,30 @@
-use borrow.Author.Rules.{rules}
 use native.Mathlib.Omega.{arith}
-use mathlib.Core.Path.{◌≡◌, refl, sym, ap, ◌∙◌}
-use Prim.Native.Nat.{◌*◌, ◌-◌, ℕ}
-use Rattle.group.specs.Group.{present, stored_slots}
-use Rattle.octets.specs.Below.{through}
-use lib.ListN.{get_or}
 use lib.Count.{leading_le}
-use Rattle.group.proofs.Bitmap.{skip, top}
+use lib.ListN.{get_or}
+use Rattle.group.proofs.Bitmap.{none_stored, last_in, last_stored, stored_le}
 use Rattle.group.proofs.stored_slots.Goals as goal
 
-pub loop-n-init : goal.loop-n-init
-unfolding stored_slots
-loop-n-init c = (search rules, refl)
+pub returns-in_default : goal.returns-in_default
+returns-in_default c = (none_stored c.args.group.now c.requires c.in_default.ensures, omega arith)
+
+pub overflow_mul-result : goal.overflow_mul-result
+overflow_mul-result c = omega (arith, last_in c.args.group.now c.requires _ c.in-Some.ensures.0)
+
+pub overflow_add-result : goal.overflow_add-result
+overflow_add-result c = omega (arith, last_in c.args.group.now c.requires _ c.in-Some.ensures.0)
+
+pub bounds-group-index : goal.bounds-group-index
+bounds-group-index c = omega (arith, last_in c.args.group.now c.requires _ c.in-Some.ensures.0)
 
 pub overflow_cast-result : goal.overflow_cast-result
-overflow_cast-result c =
-    omega (arith, leading_le 8 (get_or c.args.group.now (c.loop-n.n - 1) 0))
+overflow_cast-result c = omega (arith, leading_le 8 (get_or c.args.group.now c.in-Some.index 0))
 
 pub overflow_sub-result : goal.overflow_sub-result
-overflow_sub-result c =
-    omega (arith, leading_le 8 (get_or c.args.group.now (c.loop-n.n - 1) 0))
-
-pub returns-then-byte-ne0 : goal.returns-then-byte-ne0
-returns-then-byte-ne0 c =
-    let g = c.args.group.now in
-    let n = c.loop-n.n in
-    (top g n c.loop-n-test.true c.if-byte-ne0.true (c.shared_slice_known-1.given (n - 1)).fits ∙ sym c.loop-n.invariant.1, omega arith)
-
-pub loop-n-preserved : goal.loop-n-preserved
-loop-n-preserved c =
-    (search rules, c.loop-n.invariant.1 ∙ skip c.args.group.now c.loop-n.n c.loop-n-test.true c.if-byte-ne0.false)
+overflow_sub-result c = omega (arith, leading_le 8 (get_or c.args.group.now c.in-Some.index 0))
 
 pub returns : goal.returns
 returns c =
-    let z : c.loop-n.n ≡ 0 = omega arith in
-    (sym (c.loop-n.invariant.1 ∙ ap (λ (n : ℕ). through (present c.args.group.now) (8 * n)) z), omega arith)
+    let g = c.args.group.now in
+    let h = c.in-Some.ensures in
+    let e = last_stored g c.requires _ h.0 h.1 h.2 (c.type_inv.group c.in-Some.index).fits in
+    (e, omega (arith, e, stored_le g))

@@ -1,34 +1,35 @@
-use mathlib.Core.Path.{◌≡◌, refl, sym, ◌∙◌}
-use Prim.Native.Nat.{suc, ◌-◌, ◌+◌}
-use native.Mathlib.Nat.{sub-zero}
+use mathlib.Core.Path.{◌≡◌, sym, ◌∙◌}
+use mathlib.Core.List.{List}
+use Prim.Native.Nat.{ℕ, suc, ◌-◌, ◌+◌, ◌<◌}
 use native.Mathlib.Omega.{arith}
-use lib.ListN.{length-set}
+use lib.ListN.{length, set, length-set}
 use Rattle.lookup.proofs.RecordLaws.{end_is_at, end_is_broken}
 use Rattle.lookup.proofs.FloorLaws.{next_within}
 use Rattle.lookup.proofs.FillLaws.{fill_step, fill_break, fill_end, unbroken_step, unbroken_break, unbroken_end}
 use Rattle.lookup.proofs.fill_offsets.Goals as goal
 
-pub loop-i-init : goal.loop-i-init
-loop-i-init c = rw sub-zero (omega arith, omega arith, refl, refl, refl)
+-- one entry fewer is left behind the loop's
+left : (s : List ℕ) (i p : ℕ) → i < length s → length s - i ≡ suc (length (set s i p) - (i + 1))
+left s i p l = simp length-set (omega arith)
 
-pub loop-i-preserved : goal.loop-i-preserved
-loop-i-preserved c =
-    let r = end_is_at c.args.part.now c.loop-i.position _ (sym c.record_end.ensures ∙ c.in-At.is) in
-    let left : c.args.count - c.loop-i.i ≡ suc (c.args.count - (c.loop-i.i + 1)) = omega arith in (
-      omega arith,
-      omega (arith, next_within c.args.part.now c.loop-i.position c.loop-i.invariant.1, r.0),
-      simp length-set c.loop-i.invariant.2,
-      unbroken_step _ _ _ _ c.loop-i.i c.loop-i.scratch left _ r.0 r.1 ∙ c.loop-i.invariant.3,
-      fill_step _ _ _ _ c.loop-i.i c.loop-i.scratch left _ (omega arith) r.0 r.1 ∙ c.loop-i.invariant.4,
+pub loop-slot-preserved : goal.loop-slot-preserved
+loop-slot-preserved c =
+    let l = c.loop-slot in
+    let r = end_is_at c.args.part.now l.position _ (sym c.record_end.ensures ∙ c.in_ok-position.was) in
+    let n = left l.offsets l.slot-index l.position (omega arith) in (
+      omega (arith, next_within c.args.part.now l.position l.invariant.0, r.0),
+      unbroken_step _ _ _ _ l.slot-index l.offsets n _ r.0 r.1 ∙ l.invariant.1,
+      fill_step _ _ _ _ l.slot-index l.offsets n _ (omega arith) r.0 r.1 ∙ l.invariant.2,
     )
 
-pub returns-in-Broken : goal.returns-in-Broken
-returns-in-Broken c =
-    let b = end_is_broken c.args.part.now c.loop-i.position (sym c.record_end.ensures ∙ c.in-Broken.is) in
-    let left : c.args.count - c.loop-i.i ≡ suc (c.args.count - (c.loop-i.i + 1)) = omega arith in
-    (unbroken_break _ _ _ _ c.loop-i.i c.loop-i.scratch left b ∙ c.loop-i.invariant.3, fill_break _ _ _ _ c.loop-i.i c.loop-i.scratch left (omega arith) b ∙ c.loop-i.invariant.4)
+pub returns-in_err-position : goal.returns-in_err-position
+returns-in_err-position c =
+    let l = c.loop-slot in
+    let b = end_is_broken c.args.part.now l.position (sym c.record_end.ensures ∙ c.in_err-position.was) in
+    let n = left l.offsets l.slot-index l.position (omega arith) in
+    rw c.from_residual.ensures (unbroken_break _ _ _ _ l.slot-index l.offsets n b ∙ l.invariant.1, fill_break _ _ _ _ l.slot-index l.offsets n (omega arith) b ∙ l.invariant.2)
 
 pub returns : goal.returns
 returns c =
-    let none : c.args.count - c.loop-i.i ≡ 0 = omega arith in
-    (unbroken_end _ _ c.loop-i.position c.loop-i.i c.loop-i.scratch none ∙ c.loop-i.invariant.3, fill_end c.args.part.now _ c.loop-i.position c.loop-i.i c.loop-i.scratch none ∙ c.loop-i.invariant.4)
+    let l = c.loop-slot in
+    (unbroken_end _ _ l.position l.slot-index l.offsets (omega arith) ∙ l.invariant.1, fill_end c.args.part.now _ l.position l.slot-index l.offsets (omega arith) ∙ l.invariant.2)

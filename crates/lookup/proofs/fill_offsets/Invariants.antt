@@ -5,8 +5,5 @@ use Rattle.lookup.specs.Floor.{written, unbroken, over}
 use Rattle.lookup.proofs.FillLaws.{filled}
 use Rattle.lookup.proofs.fill_offsets.Given as goal
 
-abbrev pub invariant-loop-i : goal.invariant-loop-i
-invariant-loop-i l = (l.i ≤ l.count) × (l.position ≤ length l.part) × (length l.scratch ≡ length l.initial.scratch) × (unbroken l.part (l.count - l.i) l.position ≡ unbroken l.part l.count 0) × (filled l.part (l.count - l.i) l.position l.i l.scratch ≡ over (written l.part l.count 0) l.initial.scratch)
-
-abbrev pub decreases-loop-i : goal.decreases-loop-i
-decreases-loop-i l = l.count - l.i
+abbrev pub invariant-loop-slot : goal.invariant-loop-slot
+invariant-loop-slot l = (l.position ≤ length l.part) × (unbroken l.part (length l.offsets - l.slot-index) l.position ≡ unbroken l.part (length l.initial.offsets) 0) × (filled l.part (length l.offsets - l.slot-index) l.position l.slot-index l.offsets ≡ over (written l.part (length l.initial.offsets) 0) l.initial.offsets)

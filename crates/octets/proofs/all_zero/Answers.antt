@@ -1,13 +1,14 @@
+use mathlib.Core.Path.{◌≡◌}
+use lib.Bits.{bit_or}
 use borrow.Author.Rules.{rules}
-use mathlib.Core.Path.{ap, ◌∙◌}
-use native.Mathlib.Numerals.{add-one}
-use lib.Seq.{take_all}
-use Rattle.octets.specs.Bytes.{all_zero}
-use Rattle.octets.proofs.Zero.{zero_more}
+use Rattle.std.specs.List.{fold}
+use Rattle.std.proofs.lemmas.Iterator.{YieldsList-from_slice}
+use Rattle.std.proofs.lemmas.Iterator.Consumers.{fold_from_yields_List}
+use Rattle.octets.proofs.Zero.{zero_fold}
 use Rattle.octets.proofs.all_zero.Goals as goal
 
-pub loop-i-preserved : goal.loop-i-preserved
-loop-i-preserved c = (search rules, rw add-one (zero_more _ _ c.loop-i.seen c.loop-i-test.true c.loop-i.invariant.1))
-
 pub returns : goal.returns
-returns c = c.loop-i.invariant.1 ∙ ap all_zero (take_all _ _ c.loop-i-test.false)
+returns c =
+    let e : c.fold.result ≡ fold bit_or 0 c.args.bytes.now =
+    fold_from_yields_List _ bit_or 0 _ c.fold.ensures.ran (YieldsList-from_slice _ c.iter.ensures.rest) (λ a x b q k. search rules) in
+    rw e (zero_fold 0 c.args.bytes.now)

@@ -1,15 +1,15 @@
-use Rattle.octets.proofs.Lay.{lay_none, lay_more, lay_full, lay_whole}
-use borrow.Author.Rules.{rules}
+use Prim.Native.Nat.{◌+◌, ◌-◌}
+use mathlib.Core.Path.{◌≡◌}
+use native.Mathlib.Omega.{arith}
+use Rattle.octets.proofs.Lay.{laid_out, laid_front}
 use Rattle.octets.proofs.put.Goals as goal
 
-pub loop-i-init : goal.loop-i-init
-loop-i-init c = (search rules, search rules, lay_none)
-
-pub returns-then-out-place : goal.returns-then-out-place
-returns-then-out-place c = search lay_full
-
-pub loop-i-preserved : goal.loop-i-preserved
-loop-i-preserved c = (search rules, search rules, search lay_more)
+pub returns-then-out-at : goal.returns-then-out-at
+returns-then-out-at c = let a = c.args in laid_out a.out.now a.at a.bytes.now (omega arith)
 
 pub returns : goal.returns
-returns c = search lay_whole
+returns c =
+    let a = c.args in
+    let n = c.min-n.result in
+    let e : a.at + n - a.at ≡ n = omega arith in
+    rw (e, c.copy_from_slice.ensures.after) (laid_front a.out.now a.bytes.now a.at n (omega arith) c.min-n.ensures)

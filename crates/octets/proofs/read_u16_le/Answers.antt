@@ -1,12 +1,6 @@
-use Rattle.octets.proofs.Within.{held}
-use Rattle.error.proofs.Tests.{is_of}
+use mir.Syntax.{w16}
+use Rattle.octets.proofs.Arrays.{number_read}
 use Rattle.octets.proofs.read_u16_le.Goals as goal
 
-pub returns-then-not-lies_within : goal.returns-then-not-lies_within
-returns-then-not-lies_within c = simp (is_of c.if-not-lies_within.true c.lies_within.ensures)
-
-pub le16-requires : goal.le16-requires
-le16-requires c = search held
-
 pub returns : goal.returns
-returns c = simp (is_of c.if-not-lies_within.false c.lies_within.ensures, c.le16.ensures)
+returns c = number_read w16 _ c.args.offset c.args.reason c.read_array.ensures c.in_ok-read_array.was c.from_le_bytes.ensures

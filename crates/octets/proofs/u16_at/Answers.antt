@@ -1,5 +1,6 @@
-use Rattle.octets.proofs.Within.{held_then}
+use mir.Syntax.{w16}
+use Rattle.octets.proofs.Arrays.{number_at}
 use Rattle.octets.proofs.u16_at.Goals as goal
 
-pub le16-requires : goal.le16-requires
-le16-requires c = search held_then
+pub returns : goal.returns
+returns c = number_at w16 _ c.args.at c.filled_at.ensures c.from_le_bytes.ensures

@@ -1,5 +1,6 @@
-use Rattle.octets.proofs.Within.{held_then}
+use mir.Syntax.{w32}
+use Rattle.octets.proofs.Arrays.{number_at}
 use Rattle.octets.proofs.u32_at.Goals as goal
 
-pub le32-requires : goal.le32-requires
-le32-requires c = search held_then
+pub returns : goal.returns
+returns c = number_at w32 _ c.args.at c.filled_at.ensures c.from_le_bytes.ensures

@@ -1,5 +1,6 @@
-use Rattle.octets.proofs.Within.{held_then}
+use mir.Syntax.{w64}
+use Rattle.octets.proofs.Arrays.{number_at}
 use Rattle.octets.proofs.u64_at.Goals as goal
 
-pub le64-requires : goal.le64-requires
-le64-requires c = search held_then
+pub returns : goal.returns
+returns c = number_at w64 _ c.args.at c.filled_at.ensures c.from_le_bytes.ensures

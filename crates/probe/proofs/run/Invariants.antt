@@ -1,4 +1,6 @@
+use Rattle.std.proofs.Common.{◌≤◌}
 use Rattle.probe.proofs.run.Given as goal
 
-abbrev pub decreases-loop-turns : goal.decreases-loop-turns
-decreases-loop-turns l = l.turns
+-- the fields of s in their order: place, at, have, used
+abbrev pub invariant-loop : goal.invariant-loop
+invariant-loop l = (l.s.1.0 ≤ l.s.1.1.0) × (l.s.1.1.0 ≤ 262144)

@@ -1,12 +1,6 @@
-use Prim.Native.Nat.{◌≤◌, ◌-◌}
-use mathlib.Core.Path.{◌≡◌}
-use lib.ListN.{length}
 use Rattle.report.specs.Text.{hex_entry}
 use Rattle.report.proofs.Each.{Spelt}
 use Rattle.report.proofs.entries_field.Given as goal
 
-abbrev pub invariant-loop-i : goal.invariant-loop-i
-invariant-loop-i l = (l.i ≤ l.i-end) × (l.i-end ≡ length l.entries) × (length l.out ≡ length l.initial.out) × Spelt hex_entry l.initial.out l.initial.behind l.entries l.out l.i l.behind
-
-abbrev pub decreases-loop-i : goal.decreases-loop-i
-decreases-loop-i l = l.i-end - l.i
+abbrev pub invariant-loop-entry : goal.invariant-loop-entry
+invariant-loop-entry l = Spelt hex_entry l.initial.out l.initial.behind l.entries l.out l.entry-index l.behind

@@ -1,8 +1,5 @@
-use Rattle.report.proofs.Lines.{line_refused, line_accepted}
+use Rattle.report.proofs.Lines.{line_accepted}
 use Rattle.report.proofs.page_line.Goals as goal
-
-pub returns-then-class-ne0 : goal.returns-then-class-ne0
-returns-then-class-ne0 c = search line_refused
 
 pub returns : goal.returns
 returns c = search line_accepted

@@ -1,17 +1,22 @@
-use Rattle.utf8.proofs.Reading.{fits, no_wrap, less, utf8_stop, utf8_go, utf8_done}
+use Prim.Native.Nat.{◌≤◌}
+use lib.ListN.{length}
+use borrow.Author.Rules.{rules}
+use Rattle.octets.proofs.Parts.{part_from}
+use mathlib.Core.Path.{sym, ◌∙◌}
+use Rattle.utf8.proofs.Front.{front_fits, front_less, utf8_go, utf8_end}
 use Rattle.utf8.proofs.is_utf8.Goals as goal
 
-pub returns-then-n-eq0 : goal.returns-then-n-eq0
-returns-then-n-eq0 c = search utf8_stop
+pub slice_bounds-rest-count : goal.slice_bounds-rest-count
+slice_bounds-rest-count c = (front_fits c.loop-n.rest.now c.in-Some.n (sym c.in-Some.ensures)).1
 
-pub overflow_add-at : goal.overflow_add-at
-overflow_add-at c = search no_wrap
+pub slice_bounds-rest-start : goal.slice_bounds-rest-start
+slice_bounds-rest-start c = let h : c.in-Some.n ≤ length c.loop-n.rest.now = (front_fits c.loop-n.rest.now c.in-Some.n (sym c.in-Some.ensures)).1 in search rules
 
-pub loop-at-smaller : goal.loop-at-smaller
-loop-at-smaller c = search less
+pub loop-n-smaller : goal.loop-n-smaller
+loop-n-smaller c = front_less c.loop-n.rest.now c.in-Some.n (sym c.in-Some.ensures) (part_from c.loop-n.rest.now c.in-Some.n)
 
-pub loop-at-preserved : goal.loop-at-preserved
-loop-at-preserved c = search (fits, utf8_go)
+pub loop-n-preserved : goal.loop-n-preserved
+loop-n-preserved c = utf8_go c.loop-n.rest.now c.in-Some.n c.loop-n.invariant (sym c.in-Some.ensures) (part_from c.loop-n.rest.now c.in-Some.n)
 
 pub returns : goal.returns
-returns c = search utf8_done
+returns c = c.is_empty.ensures ∙ utf8_end c.loop-n.rest.now c.loop-n.invariant (sym c.in_default.ensures)

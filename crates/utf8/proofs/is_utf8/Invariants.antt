@@ -1,11 +1,10 @@
-use Prim.Native.Nat.{◌≤◌, ◌-◌}
 use mathlib.Core.Path.{◌≡◌}
-use lib.ListN.{length, drop}
+use lib.ListN.{length}
 use Rattle.utf8.specs.Reading.{utf8}
 use Rattle.utf8.proofs.is_utf8.Given as goal
 
-abbrev pub invariant-loop-at : goal.invariant-loop-at
-invariant-loop-at l = (l.at ≤ length l.bytes) × (utf8 l.bytes ≡ utf8 (drop l.at l.bytes))
+abbrev pub invariant-loop-n : goal.invariant-loop-n
+invariant-loop-n l = utf8 l.bytes ≡ utf8 l.rest
 
-abbrev pub decreases-loop-at : goal.decreases-loop-at
-decreases-loop-at l = length l.bytes - l.at
+abbrev pub decreases-loop-n : goal.decreases-loop-n
+decreases-loop-n l = length l.rest

@@ -1,34 +1,20 @@
-use Rattle.walk.specs.Inside.{form_of}
-use Rattle.walk.proofs.Forms.{forms, form_passes}
+use Prim.Native.Nat.{◌≤◌}
+use native.Mathlib.Omega.{arith}
+use Rattle.std.proofs.lemmas.Grind.{common_steps}
+use Rattle.lookup.specs.declared.Lengths.{Lengths}
+use Rattle.walk.proofs.Forms.{form_last}
 use Rattle.walk.proofs.record_form.Goals as goal
 
-pub returns-then-rest-lt2 : goal.returns-then-rest-lt2
-unfolding form_of
-returns-then-rest-lt2 c = search forms depth 14
-
-pub returns-then-rest-lt4 : goal.returns-then-rest-lt4
-unfolding form_of
-returns-then-rest-lt4 c = search forms depth 14
-
-pub returns-then-key_len-lt1 : goal.returns-then-key_len-lt1
-unfolding form_of
-returns-then-key_len-lt1 c = search forms depth 14
-
-pub returns-then-key_len-gt1024 : goal.returns-then-key_len-gt1024
-unfolding form_of
-returns-then-key_len-gt1024 c = search forms depth 14
-
-pub returns-then-end-value_len-gt-MAX_RECORD_BYTES : goal.returns-then-end-value_len-gt-MAX_RECORD_BYTES
-unfolding form_of
-returns-then-end-value_len-gt-MAX_RECORD_BYTES c = search forms depth 14
-
-pub returns-then-left-end : goal.returns-then-left-end
-unfolding form_of
-returns-then-left-end c = search forms depth 14
-
 pub returns-then-not-is_above : goal.returns-then-not-is_above
-unfolding form_of
-returns-then-not-is_above c = search forms depth 16 fits 20000
+returns-then-not-is_above c =
+    let l : Lengths = record { key_len = c.u16_at.result; value_len = c.u16_at-value_len.result } in
+    let low : 1 ≤ c.u16_at.result = grind (arith, common_steps, c.if-not-contains.ensures) in
+    let high : c.u16_at.result ≤ 1024 = grind (arith, common_steps, c.if-not-contains.ensures) in
+    rw (form_last _ _ c.args.left c.args.mode l _ c.u16_at.ensures c.u16_at-value_len.ensures (omega arith) low high (omega arith) (omega arith) c.is_above.ensures, c.if-not-is_above.true, c.violation-then-not-is_above.ensures)
 
 pub returns : goal.returns
-returns c = search form_passes fits 20000
+returns c =
+    let l : Lengths = record { key_len = c.u16_at.result; value_len = c.u16_at-value_len.result } in
+    let low : 1 ≤ c.u16_at.result = grind (arith, common_steps, c.if-not-contains.ensures) in
+    let high : c.u16_at.result ≤ 1024 = grind (arith, common_steps, c.if-not-contains.ensures) in
+    rw (form_last _ _ c.args.left c.args.mode l _ c.u16_at.ensures c.u16_at-value_len.ensures (omega arith) low high (omega arith) (omega arith) c.is_above.ensures, c.if-not-is_above.false)

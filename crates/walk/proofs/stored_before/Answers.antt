@@ -23,30 +23,29 @@ within s n i p e each l = whole_within s p (whole s n i p e each l)
 
 pub loop-i-init : goal.loop-i-init
 unfolding offset_of stored_blocks
-loop-i-init c = (omega arith, refl, refl)
+loop-i-init c = (refl, refl)
 
 pub overflow_add-value : goal.overflow_add-value
-overflow_add-value c = omega (arith, within c.args.rest.now c.args.n c.loop-i.i c.loop-i.position c.loop-i.invariant.1 c.requires c.loop-i-test.true)
+overflow_add-value c = omega (arith, within c.args.rest.now c.args.n c.loop-i.i c.loop-i.position c.loop-i.invariant.0 c.requires c.loop-i-test.true)
 
 pub overflow_add-value-in-loop-i : goal.overflow_add-value-in-loop-i
-overflow_add-value-in-loop-i c = omega (arith, within c.args.rest.now c.args.n c.loop-i.i c.loop-i.position c.loop-i.invariant.1 c.requires c.loop-i-test.true, c.u16_at.ensures)
+overflow_add-value-in-loop-i c = omega (arith, within c.args.rest.now c.args.n c.loop-i.i c.loop-i.position c.loop-i.invariant.0 c.requires c.loop-i-test.true, c.u16_at.ensures)
 
 pub overflow_add-position : goal.overflow_add-position
-overflow_add-position c = omega (arith, within c.args.rest.now c.args.n c.loop-i.i c.loop-i.position c.loop-i.invariant.1 c.requires c.loop-i-test.true)
+overflow_add-position c = omega (arith, within c.args.rest.now c.args.n c.loop-i.i c.loop-i.position c.loop-i.invariant.0 c.requires c.loop-i-test.true)
 
 pub overflow_add-end : goal.overflow_add-end
-overflow_add-end c = omega (arith, within c.args.rest.now c.args.n c.loop-i.i c.loop-i.position c.loop-i.invariant.1 c.requires c.loop-i-test.true, c.u16_at.ensures, c.u16_at-in-loop-i.ensures)
+overflow_add-end c = omega (arith, within c.args.rest.now c.args.n c.loop-i.i c.loop-i.position c.loop-i.invariant.0 c.requires c.loop-i-test.true, c.u16_at.ensures, c.u16_at-in-loop-i.ensures)
 
 pub loop-i-preserved : goal.loop-i-preserved
 loop-i-preserved c =
     let s = c.args.rest.now in
-    let w = whole c.args.rest.now c.args.n c.loop-i.i c.loop-i.position c.loop-i.invariant.1 c.requires c.loop-i-test.true in (
-      omega arith,
-      rw (c.u16_at.ensures, c.u16_at-in-loop-i.ensures) (offset_more s c.loop-i.i c.loop-i.position c.loop-i.invariant.1 w),
-      rw (c.u64_at-stored.ensures, c.u16_at.ensures) (stored_more s c.loop-i.i c.loop-i.position c.loop-i.invariant.1 c.args.block c.loop-i.hit w c.loop-i.invariant.2),
+    let w = whole c.args.rest.now c.args.n c.loop-i.i c.loop-i.position c.loop-i.invariant.0 c.requires c.loop-i-test.true in (
+      rw (c.u16_at.ensures, c.u16_at-in-loop-i.ensures) (offset_more s c.loop-i.i c.loop-i.position c.loop-i.invariant.0 w),
+      rw (c.u64_at.ensures, c.u16_at.ensures) (stored_more s c.loop-i.i c.loop-i.position c.loop-i.invariant.0 c.args.block c.loop-i.hit w c.loop-i.invariant.1),
     )
 
 pub returns : goal.returns
 returns c =
     let e : c.loop-i.i ≡ c.args.n = omega arith in
-    c.loop-i.invariant.2 ∙ ap (λ m. is_one_of c.args.block (stored_blocks c.args.rest.now m)) e
+    c.loop-i.invariant.1 ∙ ap (λ m. is_one_of c.args.block (stored_blocks c.args.rest.now m)) e

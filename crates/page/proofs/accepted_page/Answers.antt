@@ -1,4 +1,0 @@
-use Rattle.page.proofs.accepted_page.Goals as goal
-
-pub returns : goal.returns
-returns c = cc
