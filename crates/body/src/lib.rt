@@ -1,4 +1,6 @@
 // The bodies that the program readback reads, and the line that each gives. Document 01, "The program readback".
+// Kept: `out` and `at` travel together, as in report: memory is fixed, a line is written behind those that wait in the buffer, and the promise
+// speaks of the whole buffer.
 #![tactic(auto)]
 
 ghost use Rattle.std.specs.Prelude.{◌≡◌, []};
@@ -37,11 +39,11 @@ fn decoded_line(out: &mut [u8], at: usize, number: u64, decoded: Result<Root, Er
 {
     match decoded {
         Ok(root) => {
-            let label = match &root.label {
-                Some(label) => &label.bytes[..label.len as usize],
-                None => &[],
-            };
-            report::root_line(out, at, number, root.generation, label)
+            let label = root
+                .label
+                .as_ref()
+                .map_or(&[][..], |label| &label.bytes[..usize::from(label.len)]);
+            report::root_line(out, at, number, 0, 0, root.generation, label)
         }
         Err(e) => refusal(out, at, number, e),
     }
@@ -62,7 +64,16 @@ fn answered_line(out: &mut [u8], at: usize, number: u64, answer: Result<Page, Er
     ensures { Laid out.old at (answered_line number answer) out.new result }
 {
     match answer {
-        Ok(p) => report::page_line(out, at, number, p.level, p.data_blocks, p.count as u64),
+        Ok(p) => report::page_line(
+            out,
+            at,
+            number,
+            0,
+            0,
+            p.level,
+            p.data_blocks,
+            p.count as u64,
+        ),
         Err(e) => refusal(out, at, number, e),
     }
 }
@@ -77,7 +88,7 @@ pub fn page_body_line(out: &mut [u8], at: usize, number: u64, body: &[u8]) -> us
         octets::tail(body, 50),
         volume::ref_at(body, 0),
         &uuid,
-        volume::tree_kind_of(octets::byte_at(body, 32) as u64),
+        volume::tree_kind_of(u64::from(octets::byte_at(body, 32))),
         octets::u64_at(body, 33),
         page::expected_of(octets::byte_at(body, 41)),
         octets::u64_at(body, 42),

@@ -1,10 +1,7 @@
 -- Beside a refusal the other fields are 0.
 use Prim.Native.Nat.{ℕ}
 use mathlib.Core.Path.{◌≡◌, refl}
-use mathlib.Core.Bool.{true, ◌&&◌}
 use mathlib.Core.List.{List}
-use lib.Dec.{eqb}
-use lib.ListN.{drop}
 use Rattle.volume.specs.References.{tree_kind_of}
 use Rattle.group.specs.Group.{checksum_slot}
 use Rattle.std.specs.Prelude.{Result, Ok, Err}
@@ -12,7 +9,6 @@ use Rattle.error.specs.declared.Error.{Error}
 use Rattle.volume.specs.declared.TreeRef.{TreeRef}
 use Rattle.record.specs.Internal.{validate_internal_record}
 use Rattle.page.specs.declared.Page.{Page}
-use Rattle.page.specs.Unchecked.{draft_page_view}
 use Rattle.root.specs.declared.Selected.{Selected}
 use Rattle.carryfs.specs.Words.{Bare}
 use Rattle.carryfs.proofs.Bare.{beside_refusals}

@@ -136,17 +136,17 @@ page_rows n a b =
     ∷ 42 tells unit_words (walked_records n a)
     ∷ []
 
--- the calls below 20
-abbrev pub low_rows : Numbers → List ℕ → List ℕ → List Row
-low_rows n a b = word_rows n a b ++ (octet_rows n a b ++ block_rows n)
-
--- the calls from 20 on
-abbrev pub high_rows : Numbers → List ℕ → List ℕ → List Row
-high_rows n a b = inode_rows n a ++ (entry_rows n a b ++ (record_rows n a b ++ (root_rows n a b ++ page_rows n a b)))
-
 -- all of them
 abbrev pub table : Numbers → List ℕ → List ℕ → List Row
-table n a b = low_rows n a b ++ high_rows n a b
+table n a b =
+    word_rows n a b
+    ++ (octet_rows n a b
+    ++ (block_rows n
+    ++ (inode_rows n a
+    ++ (entry_rows n a b
+    ++ (record_rows n a b
+    ++ (root_rows n a b
+    ++ page_rows n a b))))))
 
 -- the fields of a call of the table; of another, none
 unfoldable pub fields_of : ℕ → Numbers → List ℕ → List ℕ → List ℕ

@@ -1,24 +1,27 @@
 -- How a call of probe is answered (docs/PROBE.md): its numbers as the functions take them, and its answer as fields.
-use Rattle.std.specs.Prelude.{ℕ, ◌-◌, cond, List, [], ◌∷◌, eqb, leb, length, replicate, Option, Some, None, Result, Ok, Err}
+use Rattle.std.specs.Prelude.{ℕ, ◌-◌, cond, List, [], ◌∷◌, eqb, leb, replicate, Option, Some, None, Result, Ok, Err}
+use Rattle.std.specs.Result.{ResultUnwrapsOrElse}
 use Rattle.error.specs.declared.Error.{Error}
 use Rattle.error.specs.declared.Validation.{Validation}
 use Rattle.error.specs.declared.Validation.TheVariants.{Input, Disk}
 use Rattle.error.specs.Answer.{class_of, reason_of}
 use Rattle.std.specs.declared.cmp.Ordering.{Ordering}
 use Rattle.std.specs.declared.cmp.Ordering.TheVariants.{Less, Equal, Greater}
-use Rattle.octets.specs.Bytes.{padded_to}
 use Rattle.volume.specs.declared.GroupBlocks.{GroupBlocks}
 use Rattle.volume.specs.declared.TreeRef.{TreeRef}
 use Rattle.group.specs.Group.{compact_bytes}
 use Rattle.lookup.specs.declared.Step.{Step}
 use Rattle.page.specs.declared.Page.{Page}
-use Rattle.calls.specs.declared.Fields.{Fields}
 
 -- ---- numbers
 
 -- a number within its limit; another counts as 0
 unfoldable pub at_most : ℕ → ℕ → ℕ
 at_most most value = cond (leb value most) value 0
+
+-- the same of a type that numbers are tried to be converted to: what the conversion gives, or the type's default (0) where it refuses
+abbrev pub IsWithin : {T E : Type 0} → (ℕ → Result T E → Type 0) → (T → Type 0) → ℕ → T → Type 0
+IsWithin {T} {E} gives is_default value t = (r : Result T E) × (gives value r × ResultUnwrapsOrElse r is_default t)
 
 -- a mode: 0 is Input, every other number Disk
 unfoldable pub mode_of : ℕ → Validation
@@ -29,10 +32,6 @@ abbrev pub reference_to : ℕ → ℕ → TreeRef
 reference_to block generation = record { block = block; generation = generation }
 
 -- ---- fields
-
--- fields as they are handed over: how many, and seven places, 0 behind the last
-abbrev pub told : List ℕ → Fields
-told fields = record { count = length fields; values = padded_to 7 fields }
 
 -- the bytewise order: 0 a before b, 1 equal, 2 a after b
 abbrev pub order_number : Ordering → ℕ

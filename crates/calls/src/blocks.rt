@@ -1,14 +1,14 @@
 // Calls 12 to 19: blocks, references, slots and groups of a volume.
 ghost use Rattle.std.specs.Prelude.{◌≡◌};
 ghost use Rattle.volume.specs.Groups.{reserved_group_blocks};
-ghost use Rattle.calls.specs.Told.{told, fields_in, group_fields};
+ghost use Rattle.calls.specs.Told.{fields_in, group_fields};
 ghost use Rattle.calls.specs.Table.{block_rows};
 
 use crate::tell::{bit, check, number, told};
 use crate::{Fields, Numbers, mode, reference};
 
 fn reserved_group_blocks(group: u64, blocks: u64) -> Fields
-    ensures { result ≡ told (group_fields (reserved_group_blocks group blocks)) }
+    ensures { result ≡ group_fields (reserved_group_blocks group blocks) }
 {
     let r = volume::reserved_group_blocks(group, blocks);
     told([r.low_start, r.low_end, r.high_start, r.high_end])
@@ -16,7 +16,7 @@ fn reserved_group_blocks(group: u64, blocks: u64) -> Fields
 
 #[tactic(auto, unfolding(crate::specs::Told::fields_in, crate::specs::Table::block_rows))]
 pub(crate) fn answer(call: u8, n: Numbers) -> Fields
-    ensures { result ≡ told (fields_in call (block_rows n)) }
+    ensures { result ≡ fields_in call (block_rows n) }
 {
     match call {
         12 => bit(volume::is_bank_root(n.a, n.b)),

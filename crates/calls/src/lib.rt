@@ -11,14 +11,16 @@ mod tell;
 mod words;
 
 ghost use Rattle.std.specs.Prelude.{◌≡◌};
-ghost use Rattle.calls.specs.Told.{at_most, mode_of, reference_to, told, fields_in};
+ghost use Rattle.calls.specs.Told.{IsWithin, mode_of, reference_to};
 ghost use Rattle.calls.specs.Given.{numbers_in};
-ghost use Rattle.calls.specs.Table.{low_rows, high_rows, fields_of};
+ghost use Rattle.calls.specs.Table.{fields_of};
 
 use error::Validation;
+pub use tell::Fields;
 use volume::TreeRef;
 
 // The first seven numbers of a call, in their order; of those that a call doesn't take nothing is said.
+// Kept: seven fields, not an array: `n.a` would be `n[0]` in the code and `get_or n 0 0` in the definitions.
 #[derive(Clone, Copy)]
 pub struct Numbers {
     pub a: u64,
@@ -30,36 +32,16 @@ pub struct Numbers {
     pub g: u64,
 }
 
-// The first `count` of the values are a call's fields; the others are 0.
-// Kept: an array and a count beside it: fixed memory, nothing allocates.
-#[derive(Clone, Copy)]
-pub struct Fields {
-    pub count: usize,
-    pub values: [u64; 7],
-}
-
-#[tactic(auto, unfolding(crate::specs::Told::at_most))]
-fn word(value: u64) -> u32
-    ensures { result ≡ at_most 4294967295 value }
+// A number within the range of a narrower type; another counts as 0.
+pub fn within<T: TryFrom<u64> + Default + Drop>(value: u64) -> T
+where
+    T::Error: Drop,
+    ensures { IsWithin T.try_from_gives T.is_default value result }
 {
-    u32::try_from(value).unwrap_or(0)
+    T::try_from(value).unwrap_or_default()
 }
 
-#[tactic(auto, unfolding(crate::specs::Told::at_most))]
-pub fn short(value: u64) -> u16
-    ensures { result ≡ at_most 65535 value }
-{
-    u16::try_from(value).unwrap_or(0)
-}
-
-#[tactic(auto, unfolding(crate::specs::Told::at_most))]
-fn byte(value: u64) -> u8
-    ensures { result ≡ at_most 255 value }
-{
-    u8::try_from(value).unwrap_or(0)
-}
-
-// Kept: a `From` for another crate's type can't stand here.
+// Kept: a `From` needs a type of its own around the number, since neither u64 nor `Validation` is of this crate: longer than this match.
 #[tactic(auto, unfolding(crate::specs::Told::mode_of))]
 fn mode(value: u64) -> Validation
     ensures { result ≡ mode_of value }
@@ -75,39 +57,6 @@ fn reference(block: u64, generation: u64) -> TreeRef
     ensures { result ≡ reference_to block generation }
 {
     TreeRef { block, generation }
-}
-
-// The calls below 20.
-// Kept: a call is chosen by its number, which is probe's protocol; its numbers and strings go as they are: of a struct that holds two lent strings every clause would say `.entry`.
-fn low_fields(call: u8, n: Numbers, a: &[u8], b: &[u8]) -> Fields
-    ensures { result ≡ told (fields_in call (low_rows n a.now b.now)) }
-{
-    if call < 6 {
-        return words::answer(call, n, a, b);
-    }
-    if call < 12 {
-        return octet::answer(call, n, a, b);
-    }
-    blocks::answer(call, n)
-}
-
-// The calls from 20 on.
-fn high_fields(call: u8, n: Numbers, a: &[u8], b: &[u8]) -> Fields
-    ensures { result ≡ told (fields_in call (high_rows n a.now b.now)) }
-{
-    if call < 24 {
-        return records::answer_inode(call, n, a);
-    }
-    if call < 27 {
-        return records::answer_entry(call, n, a, b);
-    }
-    if call < 32 {
-        return records::answer_record(call, n, a, b);
-    }
-    if call < 36 {
-        return choice::answer(call, n, a, b);
-    }
-    pages::answer(call, n, a, b)
 }
 
 // The first seven numbers of a call, from its bytes; they stand behind its own number, eight bytes each.
@@ -126,12 +75,23 @@ pub fn numbers_of(input: &[u8]) -> Numbers
 }
 
 // The fields of a call that the table has; another has none.
+// Kept: the number, a byte of probe's protocol, is matched here and again in each part: one match of these calls has 38 arms, and with the
+// signature more than the 40 lines that a function may have. So each part answers for every number, by an arm `_ => told([])`, as the rows
+// of specs/Table do; where its calls are all of its range no call comes there.
+// Kept: a call's number, its numbers and its strings go one by one: each part is lent what its calls take (`blocks` no string, `answer_inode`
+// one), and its rows in specs/Table take the same. Of a struct of the four each part would lend all, and clause and arms would say
+// `c.n.a`, `c.a` for `n.a`, `a`.
 pub fn fields_of(call: u8, n: Numbers, a: &[u8], b: &[u8]) -> Fields
-    ensures { result ≡ told (fields_of call n a.now b.now) }
+    ensures { result ≡ fields_of call n a.now b.now }
 {
-    if call < 20 {
-        low_fields(call, n, a, b)
-    } else {
-        high_fields(call, n, a, b)
+    match call {
+        0..=5 => words::answer(call, n, a, b),
+        6..=11 => octet::answer(call, n, a, b),
+        12..=19 => blocks::answer(call, n),
+        20..=23 => records::answer_inode(call, n, a),
+        24..=26 => records::answer_entry(call, n, a, b),
+        27..=31 => records::answer_record(call, n, a, b),
+        32..=35 => choice::answer(call, n, a, b),
+        _ => pages::answer(call, n, a, b),
     }
 }

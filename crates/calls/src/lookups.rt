@@ -3,18 +3,17 @@ ghost use Rattle.std.specs.Prelude.{◌≡◌, length};
 ghost use Rattle.lookup.specs.Floor.{floor_answer, scratch_of};
 ghost use Rattle.hand.specs.Hand.{scratch_in};
 ghost use Rattle.carryfs.specs.Words.{floor_words};
-ghost use Rattle.calls.specs.Told.{told};
 ghost use Rattle.calls.specs.Table.{page_asked};
 ghost use Rattle.calls.specs.Given.{given_fields, first_fields, handed_fields, hand_asked};
 
 use crate::tell::told;
-use crate::{Fields, Numbers, byte, reference};
+use crate::{Fields, Numbers, reference, within};
 use error::Error;
 use hand::{First, Given, Handed};
 
 // The fields of call 39 but for the scratch, which is lent.
 pub fn floor_fields(n: Numbers, payload: &[u8], key: &[u8], scratch: &mut [u16]) -> Fields
-    ensures value { result ≡ told (floor_words (floor_answer payload.now n.a key.now (length scratch.old))) }
+    ensures value { result ≡ floor_words (floor_answer payload.now n.a key.now (length scratch.old)) }
     ensures scratch_after { scratch.new ≡ scratch_of payload.now n.a scratch.old }
 {
     told(carryfs::floor_words(lookup::floor_answer(payload, n.a as usize, key, scratch)))
@@ -93,17 +92,12 @@ fn handed_numbers(handed: Result<Handed, Error>) -> [u64; 14]
                 left,
             ]
         }
-        Err(e) => {
-            let mut fields = [0; 14];
-            fields[0] = u64::from(error::class_of(e));
-            fields[1] = u64::from(error::reason_of(e));
-            fields
-        }
+        Err(e) => carryfs::refused(e),
     }
 }
 
 // The fields of call 43 but for the scratch, which is lent.
-#[tactic(auto, unfolding(crate::specs::Given::hand_asked, crate::specs::Table::page_asked))]
+#[tactic(auto, unfolding(crate::specs::Told::at_most, crate::specs::Given::hand_asked, crate::specs::Table::page_asked))]
 pub fn handed_fields(
     n: Numbers,
     uuid: &[u8],
@@ -121,7 +115,7 @@ pub fn handed_fields(
         &id,
         volume::tree_kind_of(n.c),
         n.d,
-        page::expected_of(byte(n.e)),
+        page::expected_of(within(n.e)),
         n.f,
         key,
         scratch,

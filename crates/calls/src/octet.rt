@@ -1,15 +1,15 @@
 // Calls 6 to 11: UTF-8, zeros, stored numbers, bytewise order.
 ghost use Rattle.std.specs.Prelude.{◌≡◌, [], ◌∷◌};
 ghost use Rattle.carryfs.specs.Words.{unit_words};
-ghost use Rattle.calls.specs.Told.{told, order_number, fields_in};
+ghost use Rattle.calls.specs.Told.{order_number, fields_in};
 ghost use Rattle.calls.specs.Table.{octet_rows};
 
 use crate::tell::{bit, number, told};
-use crate::{Fields, Numbers, short};
+use crate::{Fields, Numbers, within};
 use std::cmp::Ordering;
 
 fn order(order: Ordering) -> Fields
-    ensures { result ≡ told (order_number order ∷ []) }
+    ensures { result ≡ order_number order ∷ [] }
 {
     match order {
         Ordering::Less => told([0]),
@@ -18,16 +18,16 @@ fn order(order: Ordering) -> Fields
     }
 }
 
-#[tactic(auto, unfolding(crate::specs::Told::fields_in, crate::specs::Table::octet_rows))]
+#[tactic(auto, unfolding(crate::specs::Told::at_most, crate::specs::Told::fields_in, crate::specs::Table::octet_rows))]
 pub(crate) fn answer(call: u8, n: Numbers, a: &[u8], b: &[u8]) -> Fields
-    ensures { result ≡ told (fields_in call (octet_rows n a.now b.now)) }
+    ensures { result ≡ fields_in call (octet_rows n a.now b.now) }
 {
     match call {
         6 => bit(utf8::is_utf8(a)),
         7 => bit(octets::all_zero(a)),
-        8 => number(octets::read_u16_le(a, n.a as usize, short(n.b)).map(u64::from)),
-        9 => number(octets::read_u32_le(a, n.a as usize, short(n.b)).map(u64::from)),
-        10 => number(octets::read_u64_le(a, n.a as usize, short(n.b))),
+        8 => number(octets::read_u16_le(a, n.a as usize, within(n.b)).map(u64::from)),
+        9 => number(octets::read_u32_le(a, n.a as usize, within(n.b)).map(u64::from)),
+        10 => number(octets::read_u64_le(a, n.a as usize, within(n.b))),
         11 => order(octets::compare(a, b)),
         _ => told([]),
     }

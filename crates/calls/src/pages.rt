@@ -1,11 +1,11 @@
 // Calls 36 to 38, 40 and 42: pages and their records.
 ghost use Rattle.std.specs.Prelude.{◌≡◌};
 ghost use Rattle.carryfs.specs.Words.{page_words, unit_words};
-ghost use Rattle.calls.specs.Told.{told, fields_in, step_fields, draft_fields};
+ghost use Rattle.calls.specs.Told.{fields_in, step_fields, draft_fields};
 ghost use Rattle.calls.specs.Table.{page_rows, page_asked, view_asked, walked_records};
 
 use crate::tell::{number, told};
-use crate::{Fields, Numbers, byte, mode, reference};
+use crate::{Fields, Numbers, mode, reference, within};
 use error::Error;
 use lookup::Step;
 use page::Page;
@@ -13,7 +13,7 @@ use walk::RecordValidation;
 
 // Whether there is a record, its key's offset and length, its value's, and the offset of the rest.
 fn step(step: Option<Step>) -> Fields
-    ensures { result ≡ told (step_fields step) }
+    ensures { result ≡ step_fields step }
 {
     match step {
         Some(s) => told([
@@ -30,7 +30,7 @@ fn step(step: Option<Step>) -> Fields
 
 // Class, reason, level, count, and the payload's offset and length.
 fn told_draft(page: Result<Page, Error>) -> Fields
-    ensures { result ≡ told (draft_fields page) }
+    ensures { result ≡ draft_fields page }
 {
     match page {
         Ok(p) => told([
@@ -41,18 +41,14 @@ fn told_draft(page: Result<Page, Error>) -> Fields
             p.start as u64,
             p.end.saturating_sub(p.start) as u64,
         ]),
-        Err(e) => told([
-            u64::from(error::class_of(e)),
-            u64::from(error::reason_of(e)),
-            0,
-            0,
-            0,
-            0,
-        ]),
+        Err(e) => told(carryfs::refused::<6>(e)),
     }
 }
 
-#[tactic(auto, unfolding(crate::specs::Table::page_asked))]
+// Kept: what is asked of a page is spelt out here, in `verified_page_view` and in lookups `handed_fields`. The lists of page and hand are
+// those of the Rust, so each would begin with `let (reference, id, kind, parent, expected) = asked(n, uuid);` and hand the five on one by
+// one all the same.
+#[tactic(auto, unfolding(crate::specs::Told::at_most, crate::specs::Table::page_asked))]
 fn decode_page(n: Numbers, uuid: &[u8], page: &[u8]) -> Result<Page, Error>
     ensures { result ≡ page_asked n uuid.now page.now }
 {
@@ -63,12 +59,12 @@ fn decode_page(n: Numbers, uuid: &[u8], page: &[u8]) -> Result<Page, Error>
         &id,
         volume::tree_kind_of(n.c),
         n.d,
-        page::expected_of(byte(n.e)),
+        page::expected_of(within(n.e)),
         n.f,
     )
 }
 
-#[tactic(auto, unfolding(crate::specs::Table::view_asked))]
+#[tactic(auto, unfolding(crate::specs::Told::at_most, crate::specs::Table::view_asked))]
 fn verified_page_view(n: Numbers, uuid: &[u8], page: &[u8]) -> Result<Page, Error>
     ensures { result ≡ view_asked n uuid.now page.now }
 {
@@ -79,17 +75,17 @@ fn verified_page_view(n: Numbers, uuid: &[u8], page: &[u8]) -> Result<Page, Erro
         &id,
         volume::tree_kind_of(n.c),
         n.d,
-        page::expected_of(byte(n.e)),
+        page::expected_of(within(n.e)),
     )
 }
 
-#[tactic(auto, unfolding(crate::specs::Table::walked_records))]
+#[tactic(auto, unfolding(crate::specs::Told::at_most, crate::specs::Table::walked_records))]
 fn validate_records(n: Numbers, rest: &[u8]) -> Fields
-    ensures { result ≡ told (unit_words (walked_records n rest.now)) }
+    ensures { result ≡ unit_words (walked_records n rest.now) }
 {
     let context = RecordValidation {
         kind: volume::tree_kind_of(n.a),
-        page_kind: byte(n.b),
+        page_kind: within(n.b),
         page_generation: n.c,
         blocks: n.d,
         mode: mode(n.e),
@@ -99,7 +95,7 @@ fn validate_records(n: Numbers, rest: &[u8]) -> Fields
 
 #[tactic(auto, unfolding(crate::specs::Told::fields_in, crate::specs::Table::page_rows))]
 pub(crate) fn answer(call: u8, n: Numbers, a: &[u8], b: &[u8]) -> Fields
-    ensures { result ≡ told (fields_in call (page_rows n a.now b.now)) }
+    ensures { result ≡ fields_in call (page_rows n a.now b.now) }
 {
     match call {
         36 => told(carryfs::page_words(decode_page(n, a, b))),

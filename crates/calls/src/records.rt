@@ -1,46 +1,43 @@
 // Calls 20 to 31: records and checksum groups.
 ghost use Rattle.std.specs.Prelude.{◌≡◌};
 ghost use Rattle.carryfs.specs.Words.{slot_words};
-ghost use Rattle.calls.specs.Told.{told, fields_in, child_fields, front_fields};
+ghost use Rattle.calls.specs.Told.{fields_in, child_fields, front_fields};
 ghost use Rattle.calls.specs.Table.{time_fields, inode_rows, entry_rows, record_rows};
 
 use crate::tell::{check, number, told};
-use crate::{Fields, Numbers, mode, word};
+use crate::{Fields, Numbers, mode, within};
 use error::Error;
 use volume::TreeRef;
 
 fn child(answer: Result<TreeRef, Error>) -> Fields
-    ensures { result ≡ told (child_fields answer) }
+    ensures { result ≡ child_fields answer }
 {
     match answer {
         Ok(r) => told([0, 0, r.block, r.generation]),
-        Err(e) => told([
-            u64::from(error::class_of(e)),
-            u64::from(error::reason_of(e)),
-            0,
-            0,
-        ]),
+        Err(e) => told(carryfs::refused::<4>(e)),
     }
 }
 
+#[tactic(auto, using(crate::proofs::Front::front_length))]
 fn compact_group(group: &[u8]) -> Fields
-    ensures { result ≡ told (front_fields group.now) }
+    ensures { result ≡ front_fields group.now }
 {
     let front = group::compact_group(group);
     told([front.len() as u64])
 }
 
+#[tactic(auto, unfolding(crate::specs::Told::at_most))]
 fn validate_timestamp_range(n: Numbers) -> Fields
-    ensures { result ≡ told (time_fields n) }
+    ensures { result ≡ time_fields n }
 {
     let seconds = catalog::signed_number(n.a);
-    check(catalog::validate_timestamp_range(seconds, word(n.b), mode(n.c)))
+    check(catalog::validate_timestamp_range(seconds, within(n.b), mode(n.c)))
 }
 
 // Calls 20 to 23.
 #[tactic(auto, unfolding(crate::specs::Told::fields_in, crate::specs::Table::inode_rows))]
 pub(crate) fn answer_inode(call: u8, n: Numbers, a: &[u8]) -> Fields
-    ensures { result ≡ told (fields_in call (inode_rows n a.now)) }
+    ensures { result ≡ fields_in call (inode_rows n a.now) }
 {
     match call {
         20 => validate_timestamp_range(n),
@@ -54,7 +51,7 @@ pub(crate) fn answer_inode(call: u8, n: Numbers, a: &[u8]) -> Fields
 // Calls 24 to 26.
 #[tactic(auto, unfolding(crate::specs::Told::fields_in, crate::specs::Table::entry_rows))]
 pub(crate) fn answer_entry(call: u8, n: Numbers, a: &[u8], b: &[u8]) -> Fields
-    ensures { result ≡ told (fields_in call (entry_rows n a.now b.now)) }
+    ensures { result ≡ fields_in call (entry_rows n a.now b.now) }
 {
     match call {
         24 => check(catalog::validate_directory_entry(a, mode(n.a))),
@@ -67,7 +64,7 @@ pub(crate) fn answer_entry(call: u8, n: Numbers, a: &[u8], b: &[u8]) -> Fields
 // Calls 27 to 31.
 #[tactic(auto, unfolding(crate::specs::Told::fields_in, crate::specs::Table::record_rows))]
 pub(crate) fn answer_record(call: u8, n: Numbers, a: &[u8], b: &[u8]) -> Fields
-    ensures { result ≡ told (fields_in call (record_rows n a.now b.now)) }
+    ensures { result ≡ fields_in call (record_rows n a.now b.now) }
 {
     let kind = volume::tree_kind_of(n.a);
     match call {

@@ -1,5 +1,5 @@
 -- The answers of the C interface, as words of 64 bits in a lent array.
-use Rattle.std.specs.Prelude.{ℕ, ◌-◌, ◌≡◌, Bool, true, ◌&&◌, cond, List, [], ◌∷◌, ◌++◌, leb, eqb, length, get_or, drop, replicate, is_some, Option, Some, None, Result, Ok, Err}
+use Rattle.std.specs.Prelude.{ℕ, ◌-◌, ◌≡◌, Bool, true, ◌&&◌, cond, List, [], ◌∷◌, ◌++◌, leb, eqb, length, get_or, take, drop, replicate, is_some, Option, Some, None, Result, Ok, Err}
 use Rattle.error.specs.declared.Error.{Error}
 use Rattle.error.specs.Answer.{Check, Number, class_of, reason_of, check_class, check_reason, number_of}
 use Rattle.error.specs.declared.Validation.TheVariants.{Disk}
@@ -38,6 +38,10 @@ asked_status asked fits = cond asked (status_of fits) 2
 -- what is lent holds afterwards: the answer at its front where there is room, otherwise what it held
 abbrev pub placed : Bool → List ℕ → List ℕ → List ℕ
 placed fits xs out = cond fits (over xs out) out
+
+-- a refusal in so many words: class and reason, as far as there is room for them, and zeros behind
+abbrev pub refused_words : ℕ → Error → List ℕ
+refused_words size e = take size (class_of e ∷ reason_of e ∷ replicate size 0)
 
 -- class, reason, whether there is a word, the word
 abbrev pub slot_words : Result (Option ℕ) Error → List ℕ

@@ -1,24 +1,26 @@
 // The answers of the reader as words of 64 bits, for callers that can hold no more than numbers: the C interface, and the program probe.
 #![tactic(auto)]
 
-ghost use Rattle.std.specs.Prelude.{◌≡◌, ℕ, ◌-◌, ◌≤◌, ◌∷◌, ◌++◌, replicate};
-ghost use Rattle.error.specs.Answer.{class_of, reason_of};
+ghost use Rattle.std.specs.Prelude.{◌≡◌, ◌++◌};
 ghost use Rattle.root.specs.Root.{root_decode};
-ghost use Rattle.carryfs.specs.Words.{slot_words, check_words, unit_words, floor_words, step_words, label_len, label_bytes, root_words, root_text, slot_root, choice_words, page_words};
+ghost use Rattle.carryfs.specs.Words.{refused_words, slot_words, check_words, unit_words, floor_words, step_words, label_len, label_bytes, root_words, root_text, slot_root, choice_words, page_words};
 
 use error::Error;
 use lookup::{Answer, Step};
 use page::Page;
 use root::{Label, Root, Selected};
 
-// A refusal's class and reason, and zeros behind them.
-fn refused<const N: usize>(e: Error) -> [u64; N]
-    requires { 2 ≤ N }
-    ensures { result ≡ class_of e ∷ reason_of e ∷ replicate (N - 2) 0 }
+// A refusal in so many words: class and reason, as far as there is room for them, and zeros behind.
+pub fn refused<const N: usize>(e: Error) -> [u64; N]
+    ensures { result ≡ refused_words N e }
 {
     let mut words = [0; N];
-    words[0] = u64::from(error::class_of(e));
-    words[1] = u64::from(error::reason_of(e));
+    let front = [
+        u64::from(error::class_of(e)),
+        u64::from(error::reason_of(e)),
+    ];
+    let room = N.min(2);
+    words[..room].copy_from_slice(&front[..room]);
     words
 }
 
@@ -85,13 +87,11 @@ pub fn floor_words(answer: Option<Answer>) -> [u64; 4]
 fn label_len(label: Option<Label>) -> u8
     ensures { result ≡ label_len label }
 {
-    match label {
-        Some(l) => l.len,
-        None => 0,
-    }
+    label.map_or(0, |l| l.len)
 }
 
 // A label's bytes, zeros for none.
+// Kept: tried as `label.map_or([0; 255], |l| l.bytes)`: of a closure that gives an array nothing is known (its post is `Unit`), so it would need a clause of its own, which is longer than the match.
 pub fn label_bytes(label: Option<Label>) -> [u8; 255]
     ensures { result ≡ label_bytes label }
 {

@@ -70,14 +70,6 @@ pub extern "C" fn carryfs_group(key: &[u8], value: &[u8], out: &mut [u64]) -> u3
     place(&words, out)
 }
 
-fn asked_unit(uuid: &[u8], object: u64, unit: u64, valid: &[u8]) -> [u64; 3]
-    requires { length uuid.now ≡ 16 }
-    ensures { result ≡ unit_words (data_unit_crc uuid.now object unit valid.now) }
-{
-    let id = octets::padded::<16>(uuid);
-    carryfs::unit_words(crc::data_unit_crc(&id, object, unit, valid))
-}
-
 // The word of a unit of a file's data, from its valid bytes.
 #[unsafe(no_mangle)]
 pub extern "C" fn carryfs_data_unit(
@@ -90,10 +82,10 @@ pub extern "C" fn carryfs_data_unit(
     ensures value { result ≡ asked_status (is_uuid (length uuid.now)) (room 3 out.old) }
     ensures out_after { out.new ≡ placed (is_uuid (length uuid.now) && room 3 out.old) (unit_words (data_unit_crc uuid.now object unit valid.now)) out.old }
 {
-    if uuid.len() != 16 {
+    let Ok(id) = <&[u8; 16]>::try_from(uuid) else {
         return 2;
-    }
-    let words = asked_unit(uuid, object, unit, valid);
+    };
+    let words = carryfs::unit_words(crc::data_unit_crc(id, object, unit, valid));
     place(&words, out)
 }
 
@@ -172,32 +164,23 @@ pub extern "C" fn carryfs_select(
 }
 
 // Kept: C gives a kind, a level and a reference as numbers, each as a parameter.
-#[tactic(auto, unfolding(carryfs::specs::Words::can_ask))]
-fn can_ask(size: usize, kind: u32, level: u32) -> bool
-    ensures { result ≡ can_ask size kind level }
-{
-    (size == 16) & ((1 <= kind) & (kind <= 4)) & (level <= 255)
-}
-
 #[tactic(auto, unfolding(carryfs::specs::Words::asked_page))]
 fn asked_page(
     bytes: &[u8],
     block: u64,
     generation: u64,
-    uuid: &[u8],
+    uuid: &[u8; 16],
     kind: u32,
     parent: u64,
-    level: u32,
+    level: u8,
     blocks: u64,
 ) -> [u64; 7]
-    requires { (length uuid.now ≡ 16) × (level ≤ 255) }
     ensures { result ≡ asked_page bytes.now block generation uuid.now kind parent level blocks }
 {
-    let id = octets::padded::<16>(uuid);
     let reference = TreeRef { block, generation };
-    let tree = volume::tree_kind_of(kind as u64);
-    let expected = page::expected_of(level as u8);
-    carryfs::page_words(page::page_answer(bytes, reference, &id, tree, parent, expected, blocks))
+    let tree = volume::tree_kind_of(u64::from(kind));
+    let expected = page::expected_of(level);
+    carryfs::page_words(page::page_answer(bytes, reference, uuid, tree, parent, expected, blocks))
 }
 
 // The page that a reference names.
@@ -217,9 +200,9 @@ pub extern "C" fn carryfs_page(
     ensures value { result ≡ asked_status (can_ask (length uuid.now) kind level) (room 7 out.old) }
     ensures out_after { out.new ≡ placed (can_ask (length uuid.now) kind level && room 7 out.old) (asked_page bytes.now block generation uuid.now kind parent level blocks) out.old }
 {
-    if !can_ask(uuid.len(), kind, level) {
+    let (Ok(id), Ok(level), 1..=4) = (<&[u8; 16]>::try_from(uuid), u8::try_from(level), kind) else {
         return 2;
-    }
-    let words = asked_page(bytes, block, generation, uuid, kind, parent, level, blocks);
+    };
+    let words = asked_page(bytes, block, generation, id, kind, parent, level, blocks);
     place(&words, out)
 }

@@ -44,7 +44,7 @@ fn is_catalog_key(key: &[u8]) -> bool
 }
 
 // Check a catalog key; the record's kind.
-// Kept: a kind is the byte that is stored, as in the Rust; the theorem on accepted keys and READING-RULES 9.1 speak of that number.
+// Kept: the kind is the byte that is stored, since this promise gives it: an enum in its place would be another answer (docs/DECISIONS.md, 49), and the theorem on accepted keys speaks of that byte.
 #[tactic(auto, unfolding(crate::specs::Keys::validate_catalog_key, error::specs::Demand::outcome))]
 pub fn validate_catalog_key(key: &[u8], mode: Validation) -> Result<u8, Error>
     ensures { result ≡ validate_catalog_key key.now mode }
@@ -132,7 +132,7 @@ fn flags_allowed(kind: u8, flags: u8) -> bool
 // The numbers of an inode. Target is the length of what follows its 128 bytes.
 #[derive(Clone, Copy)]
 struct Numbers {
-    // Kept: the byte that is stored; another kind than 1 to 3 was refused before.
+    // Kept: the byte that is stored: `of_type` and `flags_allowed` ask for it, whose definitions are of bytes; an enum would be made by one more match.
     kind: u8,
     target: u64,
     size: u64,
@@ -302,12 +302,11 @@ pub fn validate_extent(
     if !volume::sum_fits(physical, count) {
         return Err(error::violation(mode, reason::EXTENT_PHYSICAL_RANGE));
     }
-    if !volume::sum_fits(logical, count) {
-        return Err(error::violation(mode, reason::EXTENT_LOGICAL_RANGE));
-    }
+    let outside = error::violation(mode, reason::EXTENT_LOGICAL_RANGE);
+    let end = logical.checked_add(count).ok_or(outside)?;
     if count == 0
         || octets::u32_at(value, 12) != 0
-        || MAX_LOGICAL_BLOCK < logical + count
+        || MAX_LOGICAL_BLOCK < end
         || !volume::is_nonreserved_run(physical, count, blocks)
     {
         return Err(error::violation(mode, reason::INVALID_EXTENT_RANGE));

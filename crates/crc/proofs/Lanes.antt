@@ -4,7 +4,7 @@ use mathlib.Core.Path.{◌≡◌, refl, sym, ap, ap₂, ◌∙◌, subst}
 use mathlib.Core.Bool.{Bool}
 use mathlib.Core.List.{List, [], ◌∷◌, ◌++◌}
 use Prim.Native.Nat.{ℕ, zero, suc, ◌+◌, ◌-◌, ◌*◌, ◌/◌, ◌%◌, ◌^◌, ◌≤◌, ◌<◌}
-use native.Mathlib.Nat.{add_comm, suc-mul, le_of_suc-le-suc, not-suc-le-zero, div-eq_of_lt, mul_assoc, mul_comm, zero-mul, one-mul}
+use native.Mathlib.Nat.{le_of_suc-le-suc, not-suc-le-zero, div-eq_of_lt, mul_assoc, mul_comm, zero-mul, one-mul}
 use native.Mathlib.Omega.{arith}
 use lib.Dec.{T}
 use lib.ListN.{length, take, drop, get_or, replicate, get_or-append}
@@ -12,6 +12,7 @@ use lib.Pow.{pow-add, shr-shr, split}
 use lib.Seq.{drop-drop, take_all, take-take, get_or-drop, get_or-append-add}
 use Rattle.octets.specs.Bytes.{part}
 use Rattle.octets.proofs.Join.{part_length, part_split}
+use Rattle.octets.proofs.Parts.{chunk_at}
 use Rattle.std.proofs.lemmas.List.{drop-take}
 use Rattle.std.specs.Simd.{first_chunks}
 use Rattle.crc.specs.Crc.{step_bit, step_bits, extend}
@@ -22,14 +23,6 @@ use Rattle.crc.proofs.Linear.{step_bits_⊕, step_bits_zero, step_bits_shifted, 
 use Rattle.crc.proofs.Table.{follow, follows, count, quick, quick_is}
 
 -- ---- the loop over the lanes
-
--- part i of n bytes
-part_at : (n k : ℕ) (bs : List ℕ) (i : ℕ) (d : List ℕ) → i < k → get_or (first_chunks n k bs) i d ≡ take n (drop (i * n) bs)
-part_at n zero bs i d h = absurd (not-suc-le-zero h)
-part_at n (suc k) bs zero d h = ap (λ (m : ℕ). take n (drop m bs)) (sym (zero-mul n))
-part_at n (suc k) bs (suc i) d h =
-    let e : n + i * n ≡ suc i * n = add_comm n (i * n) ∙ sym (suc-mul i n) in
-    part_at n k (drop n bs) i d (le_of_suc-le-suc h) ∙ ap (take n) (drop-drop (i * n) n bs ∙ ap (λ (m : ℕ). drop m bs) e)
 
 -- a lane so far, and its next eight bytes
 pub lane_turn : {a s : ℕ} (r p i : ℕ) (bs ls : List ℕ) (parts : List (List ℕ)) (d : List ℕ) → ls ≡ part bs p lane → p + lane ≤ length bs → i < lane / 8
@@ -46,7 +39,7 @@ lane_turn {a} {s} r p i bs ls parts d el h l ep ea es =
     ∙ take-take 8 (lane - 8 * i) (drop (8 * i) (drop p bs)) (omega arith)
     ∙ ap (take 8) (drop-drop (8 * i) p bs) in
     let here : get_or parts i d ≡ part bs (p + 8 * i) 8 =
-    ap (λ (x : List (List ℕ)). get_or x i d) ep ∙ part_at 8 (length ls / 8) ls i d k ∙ ap₂ (λ (n : ℕ) (x : List ℕ). take 8 (drop n x)) o el ∙ within in
+    ap (λ (x : List (List ℕ)). get_or x i d) ep ∙ chunk_at 8 (length ls / 8) ls i d k ∙ ap₂ (λ (n : ℕ) (x : List ℕ). take 8 (drop n x)) o el ∙ within in
     es ∙ ap₂ extend ea here
     ∙ sym (extend_append r (part bs p (8 * i)) (part bs (p + 8 * i) 8))
     ∙ ap (extend r) (sym (part_split bs p (8 * i) 8)) ∙ ap (λ (n : ℕ). extend r (part bs p n)) (sym m)

@@ -46,7 +46,7 @@ fn entry(k: usize, x: u32) -> u32
 fn step1(crc: u32, b: u8) -> u32
     ensures { result ≡ step_byte crc b }
 {
-    (crc >> 8) ^ entry(0, crc ^ b as u32)
+    (crc >> 8) ^ entry(0, crc ^ u32::from(b))
 }
 
 // The register `crc` after eight bytes. The look-ups that need not wait for the register come first.
@@ -55,10 +55,10 @@ fn step8(crc: u32, bytes: &[u8; 8]) -> u32
     ensures { result ≡ extend crc bytes.now }
 {
     let low = crc ^ u32::from_le_bytes([bytes[0], bytes[1], bytes[2], bytes[3]]);
-    entry(0, bytes[7] as u32)
-        ^ entry(1, bytes[6] as u32)
-        ^ entry(2, bytes[5] as u32)
-        ^ entry(3, bytes[4] as u32)
+    entry(0, u32::from(bytes[7]))
+        ^ entry(1, u32::from(bytes[6]))
+        ^ entry(2, u32::from(bytes[5]))
+        ^ entry(3, u32::from(bytes[4]))
         ^ entry(4, low >> 24)
         ^ entry(5, low >> 16)
         ^ entry(6, low >> 8)
@@ -85,17 +85,19 @@ fn with_bit(crc: u32, k: usize, word: u32, r: u32) -> u32
 }
 
 // The register after two lanes: `first` after the first, and `second` after the other from a register of 0.
+#[tactic(auto, using(crate::proofs::Lanes::join_start, crate::proofs::Lanes::join_turn, crate::proofs::Lanes::join_done))]
 fn join(first: u32, second: u32) -> u32
     ensures { result ≡ bit_xor (past_lane first) second }
 {
     let mut r = second;
-    for k in 0..32 {
-        r = with_bit(first, k, lane_words()[k], r);
+    for (k, &word) in lane_words().iter().enumerate() {
+        r = with_bit(first, k, word, r);
     }
     r
 }
 
 // The register `crc` after a round of three lanes. No lane waits for another, so they are summed side by side.
+// Kept: one index for three lanes: tried as `a.iter().zip(b).zip(c)`: the proof didn't close, 27 goals stayed open where this asks for three.
 fn step_round(crc: u32, bytes: &[u8; ROUND]) -> u32
     ensures { result ≡ extend crc bytes.now }
 {
@@ -188,8 +190,8 @@ fn unit_sum(uuid: &[u8; 16], object: u64, unit: u64, valid: &[u8]) -> u32
 pub fn data_unit_crc(uuid: &[u8; 16], object: u64, unit: u64, valid: &[u8]) -> Result<u64, Error>
     ensures { result ≡ data_unit_crc uuid.now object unit valid.now }
 {
-    if valid.is_empty() || valid.len() > UNIT_BYTES {
+    if !(1..=UNIT_BYTES).contains(&valid.len()) {
         return Err(Error::InvalidInput(UNLISTED));
     }
-    Ok(unit_sum(uuid, object, unit, valid) as u64)
+    Ok(u64::from(unit_sum(uuid, object, unit, valid)))
 }

@@ -1,11 +1,14 @@
 -- Tests joined, and a test from what a call ensures of its result.
 use mathlib.Core.Path.{◌≡◌, refl, sym, ◌∙◌}
-use mathlib.Core.Bool.{Bool, true, false, not, ◌&&◌, ◌||◌, and-false}
+use mathlib.Core.Bool.{Bool, true, false, not, ◌&&◌, ◌||◌}
 use mathlib.Core.Logic.{◌⊎◌, inl, inr}
 use Prim.Native.Nat.{ℕ, ◌≤◌, ◌<◌}
 use native.Mathlib.Omega.{arith}
 use borrow.Author.Tests.{eq-eqb, ne_eqb, eqb-true, le-leb, lt-leb, lt-ltb, le-ltb, not-true, not-false}
 use lib.Dec.{eqb, leb}
+use Rattle.std.proofs.lemmas.Bool.{or_cases}
+-- the library's, by the words of this page: both tests hold, one of them fails, one of them holds, neither does, a test turned round
+pub use Rattle.std.proofs.lemmas.Bool.{and_from as and_both, and_left as and_first, and_right as and_second, or_left as or_first, or_right as or_second, or_from as or_neither, not_from_false as not_yes, not_from_true as not_no}
 
 -- ---- both tests hold
 
@@ -17,33 +20,10 @@ pub and_right : (a b : Bool) → (a && b) ≡ true → b ≡ true
 and_right true b e = e
 and_right false b e = cc
 
-pub and_both : (a b : Bool) → a ≡ true → b ≡ true → (a && b) ≡ true
-and_both a b p q = rw (p, q)
-
-pub and_first : (a b : Bool) → a ≡ false → (a && b) ≡ false
-and_first a b p = rw p
-
-pub and_second : (a b : Bool) → b ≡ false → (a && b) ≡ false
-and_second a b p = rw p (and-false a)
-
 -- ---- one of the tests holds
 
-pub or_first : (a b : Bool) → a ≡ true → (a || b) ≡ true
-or_first a b p = rw p
-
-pub or_second : (a b : Bool) → b ≡ true → (a || b) ≡ true
-or_second true b p = refl
-or_second false b p = p
-
-pub or_neither : (a b : Bool) → a ≡ false → b ≡ false → (a || b) ≡ false
-or_neither a b p q = rw (p, q)
-
-either : (a b : Bool) → (a || b) ≡ true → (a ≡ true) ⊎ (b ≡ true)
-either true b e = inl refl
-either false b e = inr e
-
 pub one_of : (n a b : ℕ) → (eqb n a || eqb n b) ≡ true → (n ≡ a) ⊎ (n ≡ b)
-one_of n a b e = go (either (eqb n a) (eqb n b) e)
+one_of n a b e = go (or_cases (eqb n a) (eqb n b) e)
   where
     go : (eqb n a ≡ true) ⊎ (eqb n b ≡ true) → (n ≡ a) ⊎ (n ≡ b)
     go (inl p) = inl (eqb-true n a p)
@@ -52,14 +32,6 @@ one_of n a b e = go (either (eqb n a) (eqb n b) e)
 pub is_one_of_lem : (n a b : ℕ) → (n ≡ a) ⊎ (n ≡ b) → (eqb n a || eqb n b) ≡ true
 is_one_of_lem n a b (inl p) = or_first (eqb n a) (eqb n b) (eq-eqb n a p)
 is_one_of_lem n a b (inr p) = or_second (eqb n a) (eqb n b) (eq-eqb n b p)
-
--- ---- a test turned round
-
-pub not_yes : (a : Bool) → a ≡ false → not a ≡ true
-not_yes a p = rw p
-
-pub not_no : (a : Bool) → a ≡ true → not a ≡ false
-not_no a p = rw p
 
 -- ---- a definition's test, from the code's test of the result r that a call ensures
 

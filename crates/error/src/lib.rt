@@ -54,12 +54,8 @@ pub fn reason_of(e: Error) -> u16
     ensures { result ≡ reason_of e }
 {
     match e {
-        Error::InvalidGeometry => 0,
-        Error::InvalidInput(n) => n,
-        Error::Corrupt(n) => n,
-        Error::UnsupportedFormat => 0,
-        Error::InvalidName(n) => n,
-        Error::TooLong(n) => n,
+        Error::InvalidGeometry | Error::UnsupportedFormat => 0,
+        Error::InvalidInput(n) | Error::Corrupt(n) | Error::InvalidName(n) | Error::TooLong(n) => n,
     }
 }
 
@@ -67,18 +63,12 @@ pub fn reason_of(e: Error) -> u16
 pub fn check_class<T: Copy>(c: Result<T, Error>) -> u16
     ensures { result ≡ check_class c }
 {
-    match c {
-        Ok(_) => 0,
-        Err(e) => class_of(e),
-    }
+    c.err().map_or(0, class_of)
 }
 
 // The reason of a check's answer, 0 where it passed.
 pub fn check_reason<T: Copy>(c: Result<T, Error>) -> u16
     ensures { result ≡ check_reason c }
 {
-    match c {
-        Ok(_) => 0,
-        Err(e) => reason_of(e),
-    }
+    c.err().map_or(0, reason_of)
 }

@@ -1,37 +1,33 @@
 -- Holes: the test of a slot, the eight slots of a bitmap byte, and the walk over the first slots.
 use mathlib.Core.Path.{◌≡◌, refl, sym, ap, ◌∙◌}
-use mathlib.Core.Bool.{Bool, true, false, not, ◌&&◌, ◌||◌, and_assoc, and_comm}
+use mathlib.Core.Bool.{Bool, true, false, not, ◌&&◌, ◌||◌, and_comm, and-true}
 use mathlib.Core.List.{List, [], ◌∷◌}
-use Prim.Native.Nat.{ℕ, zero, suc, ◌+◌, ◌-◌, ◌*◌, ◌/◌, ◌%◌, ◌^◌, ◌≤◌, ◌<◌}
-use native.Mathlib.Nat.{add-zero, add-suc}
+use Prim.Native.Nat.{ℕ, ◌+◌, ◌-◌, ◌*◌, ◌/◌, ◌%◌, ◌^◌, ◌≤◌, ◌<◌}
 use native.Mathlib.Numerals.{add-one}
 use native.Mathlib.Omega.{arith}
 use borrow.Author.Tests.{eqb-true, eqb-false}
 use lib.Dec.{eqb}
 use lib.ListN.{length, get_or, take, drop, length-take, length-drop, take-append-drop}
-use lib.Seq.{drop-append-le, take-append-le}
+use lib.Seq.{drop-append-le, take-append-le, drop-drop, take-take, take_all}
 use lib.Bits.{bit_and}
-use Rattle.error.proofs.Tests.{and_both, and_first, and_second, or_first, yes_of, no_of}
+use Rattle.error.proofs.Tests.{and_both, and_first, and_second, or_first}
 use Rattle.octets.specs.Bytes.{bit}
 use Rattle.octets.specs.Number.{little, u32_at, field}
 use Rattle.octets.specs.Below.{every}
-use Rattle.octets.proofs.Below.{every_at, every_all, every_false, every_more}
+use Rattle.octets.proofs.Below.{every_join, every_same, every_at, every_all}
 use Rattle.octets.proofs.Bit.{mask_clear, mask_set, bit_of}
-use Rattle.octets.proofs.Parts.{field_from, part_from}
-use Rattle.group.specs.Group.{present, word, hole_zero}
-use Rattle.group.specs.Inside.{slot_zero, eight_zero}
+use Rattle.octets.proofs.Parts.{field_from, chunk_at}
+use Rattle.std.specs.Simd.{first_chunks}
+use Rattle.std.proofs.lemmas.List.{drop-take}
+use Rattle.group.specs.Group.{hole_zero}
+use Rattle.group.specs.Inside.{slot_zero, slots_zero}
 
--- ---- a test at the first m + n numbers: at the n from m on, and at the first m
+-- ---- a test that fails below m
 
-module _ (f : ℕ → Bool) (m : ℕ) where
-  every_join : (n : ℕ) → every f (m + n) ≡ (every (λ (j : ℕ). f (m + j)) n && every f m)
-  every_join zero = ap (every f) (add-zero m)
-  every_join (suc n) = rw (add-suc m n, every_join n) (sym (and_assoc (f (m + n)) (every (λ (j : ℕ). f (m + j)) n) (every f m)))
-
-  every_longer : (n : ℕ) → m ≤ n → every f m ≡ false → every f n ≡ false
-  every_longer n h e =
-      let k : m + (n - m) ≡ n = omega arith in
-      sym (ap (every f) k) ∙ every_join (n - m) ∙ and_second (every (λ (j : ℕ). f (m + j)) (n - m)) (every f m) e
+every_longer : (f : ℕ → Bool) (m n : ℕ) → m ≤ n → every f m ≡ false → every f n ≡ false
+every_longer f m n h e =
+    let k : m + (n - m) ≡ n = omega arith in
+    sym (ap (every f) k) ∙ every_join f m (n - m) ∙ and_second (every (λ (j : ℕ). f (m + j)) (n - m)) (every f m) e
 
 -- ---- a field within a part
 
@@ -66,64 +62,84 @@ module _ (bits j : ℕ) (h : j < 8) where
   pub slot_joined : (words : List ℕ) (w : ℕ) → w ≡ u32_at words (4 * j) → (not (eqb mask 0) || eqb w 0) ≡ slot_zero bits words j
   slot_joined words w e = rw (mask_says (eqb mask 0) refl, e)
 
--- the same test of each of the first n
-every_same : (f h : ℕ → Bool) (n : ℕ) → ((j : ℕ) → j < n → f j ≡ h j) → every f n ≡ every h n
-every_same f h zero e = refl
-every_same f h (suc n) e = rw (e n (omega arith), every_same f h n (λ j l. e j (omega arith)))
+-- none yet, and one more; r is its answer
+pub slots_none : (bits : ℕ) (words : List ℕ) → true ≡ slots_zero bits words 0
+unfolding slots_zero
+slots_none bits words = refl
 
--- one more; r is its answer
-pub every_next : (f : ℕ → Bool) (a r : Bool) (n : ℕ) → a ≡ every f n → r ≡ f n → (a && r) ≡ every f (n + 1)
-every_next f a r n p q = rw (add-one, p, q) (and_comm (every f n) (f n))
+pub slots_next : (bits : ℕ) (words : List ℕ) (n : ℕ) (a r : Bool) → a ≡ slots_zero bits words n → r ≡ slot_zero bits words n → (a && r) ≡ slots_zero bits words (n + 1)
+unfolding slots_zero
+slots_next bits words n a r p q = rw (add-one, p, q) (and_comm (every (slot_zero bits words) n) (slot_zero bits words n))
 
--- ---- the slots of bitmap byte k
+-- each slot of a full byte is present
+pub full_byte : (bits : ℕ) (words : List ℕ) → bits ≡ 255 → true ≡ slots_zero bits words 8
+unfolding slots_zero
+full_byte bits words e =
+    sym (every_all (slot_zero bits words) 8 (λ j h. or_first (eqb (bit bits j) 1) (eqb (u32_at words (4 * j)) 0) (ap (λ b. eqb (bit b j) 1) e ∙ every_at (λ j. eqb (bit 255 j) 1) 8 refl j h)))
 
-module _ (g : List ℕ) (k : ℕ) where
-  -- the test of slot j of the byte
-  abbrev at : ℕ → Bool
-  at j = hole_zero g (8 * k + j)
+-- ---- the words of the first n slots, and the test of the slots of bitmap byte k by some of them
 
-  pub eight_present : get_or g k 0 ≡ 255 → true ≡ eight_zero g k
-  unfolding eight_zero
-  eight_present e =
-      let ones : (j : ℕ) → j < 8 → present g (8 * k + j) ≡ true =
-      λ j h. bit_of g k j h ∙ ap (λ (b : ℕ). eqb (bit b j) 1) e ∙ every_at (λ (j : ℕ). eqb (bit 255 j) 1) 8 refl j h in
-      sym (every_all at 8 (λ j h. or_first (present g (8 * k + j)) (eqb (word g (8 * k + j)) 0) (ones j h)))
+module _ (g : List ℕ) (n : ℕ) (h : 32 + 4 * n ≤ length g) where
+  abbrev ws : List ℕ
+  ws = take (32 + 4 * n - 32) (drop 32 g)
 
-  word_place : (j : ℕ) → 32 + 32 * k + 4 * j ≡ 32 + 4 * (8 * k + j)
-  word_place j = omega arith
+  ws_length : length ws ≡ 4 * n
+  ws_length = simp (length-take, length-drop) (omega arith)
 
-  -- by the 32 bytes of its words
-  pub eight_told : 64 + 32 * k ≤ length g → (z : Bool) → z ≡ every (slot_zero (get_or g k 0) (take (32 + 32 * k + 32 - (32 + 32 * k)) (drop (32 + 32 * k) g))) 8 → z ≡ eight_zero g k
-  unfolding eight_zero
-  eight_told whole z e =
-      e ∙ every_same (slot_zero (get_or g k 0) (take (32 + 32 * k + 32 - (32 + 32 * k)) (drop (32 + 32 * k) g))) at 8 (λ j h.
-      let n : 32 + 32 * k + 32 - (32 + 32 * k) ≡ 32 = omega arith in
-      rw (n, field_within g (32 + 32 * k) 32 (4 * j) 4 (omega arith) (omega arith), word_place j, bit_of g k j h))
+  ws_chunks : length ws / 32 ≡ n / 8
+  ws_chunks = omega (arith, ws_length)
 
-  -- by all the words from its own on
-  abbrev words : List ℕ
-  words = take (length g - (32 + 32 * k)) (drop (32 + 32 * k) g)
+  abbrev at : ℕ → ℕ → Bool
+  at k j = hole_zero g (8 * k + j)
 
-  pub slot_told : (j : ℕ) → j < 8 → slot_zero (get_or g k 0) words j ≡ hole_zero g (8 * k + j)
-  slot_told j h = rw (part_from g (32 + 32 * k), field_from g (32 + 32 * k) (4 * j) 4, word_place j, bit_of g k j h)
+  -- the words of the byte's first m slots
+  words_at : (k m : ℕ) → 8 * k + m ≤ n → take (4 * m) (drop (k * 32) ws) ≡ take (4 * m) (drop (32 + 32 * k) g)
+  words_at k m l =
+      let w : 32 + 4 * n - 32 ≡ k * 32 + (4 * n - k * 32) = omega arith in
+      let p : 32 + k * 32 ≡ 32 + 32 * k = omega arith in
+      ap (λ (i : ℕ). take (4 * m) (drop (k * 32) (take i (drop 32 g)))) w
+      ∙ ap (take (4 * m)) (drop-take (k * 32) (4 * n - k * 32) (drop 32 g))
+      ∙ take-take (4 * m) (4 * n - k * 32) (drop (k * 32) (drop 32 g)) (omega arith)
+      ∙ ap (take (4 * m)) (drop-drop (k * 32) 32 g ∙ ap (λ (i : ℕ). drop i g) p)
 
-  -- the eight after those of the bytes before
-  eight_more : every (hole_zero g) (8 * (k + 1)) ≡ (eight_zero g k && every (hole_zero g) (8 * k))
-  unfolding eight_zero
-  eight_more = let e : 8 * (k + 1) ≡ 8 * k + 8 = omega arith in ap (every (hole_zero g)) e ∙ every_join (hole_zero g) (8 * k) 8
+  slots_told : (k m : ℕ) (w : List ℕ) → m ≤ 8 → 8 * k + m ≤ n → w ≡ take (4 * m) (drop (k * 32) ws) → slots_zero (get_or g k 0) w m ≡ every (at k) m
+  unfolding slots_zero
+  slots_told k m w few l e =
+      every_same (slot_zero (get_or g k 0) w) (at k) m (λ j hj.
+      let p : 32 + 32 * k + 4 * j ≡ 32 + 4 * (8 * k + j) = omega arith in
+      rw (e, words_at k m l, field_within g (32 + 32 * k) (4 * m) (4 * j) 4 (omega arith) (omega arith), p, bit_of g k j (omega arith)))
 
-  -- r is the answer for the byte
-  pub eights_more : (r : Bool) → every (hole_zero g) (8 * k) ≡ true → not r ≡ false → r ≡ eight_zero g k → every (hole_zero g) (8 * (k + 1)) ≡ true
-  eights_more r h p e = eight_more ∙ and_both _ _ (yes_of p e) h
+-- ---- byte by byte: `parts` has for each byte the words of its eight slots
 
-  pub eights_stop : (r : Bool) (n : ℕ) → k < n / 8 → not r ≡ true → r ≡ eight_zero g k → false ≡ every (hole_zero g) n
-  eights_stop r n l p e = sym (every_longer (hole_zero g) (8 * (k + 1)) n (omega arith) (eight_more ∙ and_first _ _ (no_of p e)))
+module _ (g : List ℕ) (n : ℕ) (h : 32 + 4 * n ≤ length g) (parts : List (List ℕ)) (front : parts ≡ first_chunks 32 (length (ws g n h) / 32) (ws g n h))
+    (count : length parts ≡ length (ws g n h) / 32) where
+  chunks : length parts ≡ n / 8
+  chunks = count ∙ ws_chunks g n h
 
-  -- r is the answer for slot j of the byte
-  pub slots_more : (j : ℕ) (r : Bool) → j < 8 → every (hole_zero g) (8 * k + j) ≡ true → not r ≡ false → r ≡ slot_zero (get_or g k 0) words j → every (hole_zero g) (8 * k + (j + 1)) ≡ true
-  slots_more j r l h p e =
-      let s : 8 * k + (j + 1) ≡ 8 * k + j + 1 = omega arith in
-      rw s (every_more (hole_zero g) (8 * k + j) h (yes_of p (e ∙ slot_told j l)))
+  -- one more; r is the answer for the byte
+  next_eight : (k : ℕ) (r : Bool) → k < length parts → r ≡ slots_zero (get_or g k 0) (get_or parts k []) 8 → every (hole_zero g) (8 * (k + 1)) ≡ (r && every (hole_zero g) (8 * k))
+  next_eight k r l e =
+      let m : 8 * (k + 1) ≡ 8 * k + 8 = omega arith in
+      let p : get_or parts k [] ≡ take 32 (drop (k * 32) (ws g n h)) = ap (λ (x : List (List ℕ)). get_or x k []) front ∙ chunk_at 32 (length (ws g n h) / 32) (ws g n h) k [] (omega (arith, count)) in
+      ap (every (hole_zero g)) m ∙ every_join (hole_zero g) (8 * k) 8
+      ∙ ap (λ (b : Bool). b && every (hole_zero g) (8 * k)) (sym (e ∙ slots_told g n h k 8 (get_or parts k []) (omega arith) (omega (arith, chunks)) p))
 
-  pub slots_stop : (j : ℕ) (r : Bool) (n : ℕ) → j < 8 → 8 * k + j < n → not r ≡ true → r ≡ slot_zero (get_or g k 0) words j → false ≡ every (hole_zero g) n
-  slots_stop j r n l h p e = sym (every_false (hole_zero g) n (8 * k + j) h (no_of p (e ∙ slot_told j l)))
+  pub bytes_more : (k : ℕ) (r : Bool) → k < length parts → every (hole_zero g) (8 * k) ≡ true → r ≡ true → r ≡ slots_zero (get_or g k 0) (get_or parts k []) 8 → every (hole_zero g) (8 * (k + 1)) ≡ true
+  bytes_more k r l i y e = next_eight k r l e ∙ and_both _ _ y i
+
+  pub bytes_stop : (k : ℕ) (r : Bool) → k < length parts → r ≡ false → r ≡ slots_zero (get_or g k 0) (get_or parts k []) 8 → false ≡ every (hole_zero g) n
+  bytes_stop k r l y e = sym (every_longer (hole_zero g) (8 * (k + 1)) n (omega (arith, l, chunks)) (next_eight k r l e ∙ and_first _ _ y))
+
+  -- the slots of the last byte
+  pub bytes_end : (k : ℕ) (r : Bool) (w : List ℕ) → length parts ≤ k → k ≤ length parts → every (hole_zero g) (8 * k) ≡ true → w ≡ drop (length (ws g n h) / 32 * 32) (ws g n h)
+      → r ≡ slots_zero (get_or g (n / 8) 0) w (n % 8) → r ≡ every (hole_zero g) n
+  bytes_end k r w lo hi first e s =
+      let i : length (ws g n h) / 32 * 32 ≡ n / 8 * 32 = omega (arith, ws_chunks g n h) in
+      let rest : w ≡ take (4 * (n % 8)) (drop (n / 8 * 32) (ws g n h)) =
+      e ∙ ap (λ (j : ℕ). drop j (ws g n h)) i ∙ sym (take_all (4 * (n % 8)) (drop (n / 8 * 32) (ws g n h)) (rw length-drop (omega (arith, ws_length g n h)))) in
+      let m : n ≡ 8 * (n / 8) + n % 8 = omega arith in
+      let whole : 8 * k ≡ 8 * (n / 8) = omega (arith, chunks) in
+      s ∙ slots_told g n h (n / 8) (n % 8) w (omega arith) (omega arith) rest
+      ∙ sym
+      (ap (every (hole_zero g)) m ∙ every_join (hole_zero g) (8 * (n / 8)) (n % 8)
+      ∙ ap (λ (b : Bool). every (at g n h (n / 8)) (n % 8) && b) (sym (ap (every (hole_zero g)) whole) ∙ first) ∙ and-true (every (at g n h (n / 8)) (n % 8)))

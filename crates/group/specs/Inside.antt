@@ -1,9 +1,8 @@
 -- What private functions promise. No public promise rests on these.
-use Rattle.std.specs.Prelude.{ℕ, ◌+◌, ◌*◌, ◌<◌, ◌≡◌, ◌≢◌, Bool, ◌||◌, List, eqb, length, slice_index, Option, MatchOption}
+use Rattle.std.specs.Prelude.{ℕ, ◌*◌, ◌<◌, ◌≡◌, ◌≢◌, Bool, ◌||◌, List, eqb, length, slice_index, Option, MatchOption}
 use Rattle.octets.specs.Below.{every}
 use Rattle.octets.specs.Bytes.{bit}
 use Rattle.octets.specs.Number.{u32_at}
-use Rattle.group.specs.Group.{hole_zero}
 
 -- the place of the last byte that isn't 0, none where each is 0
 abbrev pub IsLastNonzero : List ℕ → Option ℕ → Type 0
@@ -15,6 +14,6 @@ IsLastNonzero s place =
 abbrev pub slot_zero : ℕ → List ℕ → ℕ → Bool
 slot_zero bits words j = eqb (bit bits j) 1 || eqb (u32_at words (4 * j)) 0
 
--- the same of the eight slots of bitmap byte k
-unfoldable pub eight_zero : List ℕ → ℕ → Bool
-eight_zero g k = every (λ (j : ℕ). hole_zero g (8 * k + j)) 8
+-- the same of its first slots
+unfoldable pub slots_zero : ℕ → List ℕ → ℕ → Bool
+slots_zero bits words n = every (slot_zero bits words) n

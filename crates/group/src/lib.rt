@@ -6,7 +6,7 @@ ghost use Rattle.octets.specs.Below.{every};
 ghost use Rattle.octets.specs.Bytes.{IsPart};
 ghost use Rattle.group.specs.Group.{checksum_slot, compact_bytes, expand_group, validate_checksum_group, stored_slots, right_size, is_compact, hole_zero, holes_zero};
 ghost use Rattle.group.specs.Accept.{Sized};
-ghost use Rattle.group.specs.Inside.{IsLastNonzero, slot_zero, eight_zero};
+ghost use Rattle.group.specs.Inside.{IsLastNonzero, slot_zero, slots_zero};
 
 use error::{Error, Validation, reason};
 
@@ -71,7 +71,7 @@ pub fn expand_group(value: &[u8]) -> [u8; CHECKSUM_GROUP_BYTES]
 fn right_size(n: usize) -> bool
     ensures { result ≡ right_size n }
 {
-    n >= 36 && n <= CHECKSUM_GROUP_BYTES && (n - 32) % 4 == 0
+    (36..=CHECKSUM_GROUP_BYTES).contains(&n) && (n - 32) % 4 == 0
 }
 
 // Whether the last stored slot's bit is set and no bit above it is: one encoding per group, and never an empty one.
@@ -93,44 +93,41 @@ fn slot_zero(bits: u8, words: &[u8], j: usize) -> bool
     (bits & (1 << j) != 0) | (octets::u32_at(words, 4 * j) == 0)
 }
 
-// The same of the eight slots of bitmap byte k. Their words are lent as 32 bytes: the reads need not ask where the group ends.
-#[tactic(auto, using(crate::proofs::Holes::eight_present, crate::proofs::Holes::every_next))]
-fn eight_zero(group: &[u8], k: usize) -> bool
-    requires { (64 + 32 * k ≤ length group.now) × (k < 32) }
-    ensures { result ≡ eight_zero group.now k }
+// The same of its first slots.
+// Kept: a slot's number is its bit in the byte and its place among the words. Tried as a fold over `0..count`, which wants a `requires` on its closure: not proved; `all` would leave early, and valid holes are all zero.
+#[tactic(auto, using(crate::proofs::Holes::slots_none, crate::proofs::Holes::slots_next))]
+fn slots_zero(bits: u8, words: &[u8], count: usize) -> bool
+    requires { count ≤ 8 }
+    ensures { result ≡ slots_zero bits words.now count }
 {
-    let bits = group[k];
-    if bits == 255 {
-        return true;
-    }
-    let start = 32 + 32 * k;
-    let words = &group[start..start + 32];
     let mut zero = true;
-    for j in 0..8 {
+    for j in 0..count {
         zero &= slot_zero(bits, words, j);
     }
     zero
 }
 
+// The same of all eight. Their words are lent as 32 bytes: the reads need not ask where the group ends.
+#[tactic(auto, using(crate::proofs::Holes::full_byte))]
+fn eight_zero(bits: u8, words: &[u8; 32]) -> bool
+    ensures { result ≡ slots_zero bits words.now 8 }
+{
+    bits == 255 || slots_zero(bits, words, 8)
+}
+
 // Whether each hole among the first slots holds zero: whole bitmap bytes first, then the slots of the last one.
-#[tactic(auto, using(crate::proofs::Holes::eights_more, crate::proofs::Holes::eights_stop, crate::proofs::Holes::slots_more, crate::proofs::Holes::slots_stop))]
+// By `enumerate`: with `group.iter().zip(eights).all(..)`, which proves too, a full group takes 1.7 of the time.
 fn first_holes_zero(group: &[u8], count: usize) -> bool
     requires { (32 + 4 * count ≤ length group.now) × (count ≤ 256) }
     ensures { result ≡ every (hole_zero group.now) count }
 {
-    let whole = count / 8;
-    for k in 0..whole {
-        if !eight_zero(group, k) {
+    let (eights, rest) = group[32..32 + 4 * count].as_chunks::<32>();
+    for (k, words) in eights.iter().enumerate() {
+        if !eight_zero(group[k], words) {
             return false;
         }
     }
-    let words = &group[32 + 32 * whole..];
-    for j in 0..count % 8 {
-        if !slot_zero(group[whole], words, j) {
-            return false;
-        }
-    }
-    true
+    slots_zero(group[count / 8], rest, count % 8)
 }
 
 // Whether each hole of a compact value holds zero.

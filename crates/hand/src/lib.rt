@@ -61,12 +61,13 @@ pub fn lookup_first(view: PageView<'_>, key: &[u8], offsets: &mut [u16]) -> Opti
 pub struct Handed {
     pub level: u8,
     pub data_blocks: u64,
+    // Kept: the count that the page states, no length.
     pub count: usize,
     pub first: Option<First>,
 }
 
 // Validate the page that the reference names, look the key up on its view, and take the first record.
-// Kept: the parameters of `decode_page`, which are the Rust's, and the lookup's.
+// Kept: the parameters of `decode_page`, as callers give them today, and the lookup's: a struct would ask another thing of them.
 pub fn hand_out(
     page: &[u8],
     reference: TreeRef,

@@ -1,5 +1,6 @@
 // The line of a call of probe, from the call's bytes on, laid into a lent buffer.
 // Each function that is lent `out` lays its text into the buffer from `at` on and returns the place behind it; what the buffer has no room for is left out.
+// Kept: `out` and `at` travel together, as in report, which lays the texts: of a struct that holds the lent buffer each function would need a second clause, that it is the same buffer still.
 #![tactic(auto)]
 
 ghost use Rattle.std.specs.Prelude.{◌≡◌, [], ◌∷◌, ◌++◌, replicate};
@@ -9,9 +10,8 @@ ghost use Rattle.group.specs.Group.{expand_group};
 ghost use Rattle.root.specs.Label.{label_new};
 ghost use Rattle.root.specs.Root.{root_decode};
 ghost use Rattle.report.specs.Text.{number_fields, hex_field};
-ghost use Rattle.lines.specs.Line.{string_of, behind_string, strings_in, label_told, named_told, root_told, lent, floor_told, handed_told, answer_told, call_told, call_line};
+ghost use Rattle.lines.specs.Line.{string_of, behind_string, strings_in, label_told, named_told, root_told, lent, floor_told, handed_told, call_told, call_line};
 ghost use Rattle.calls.specs.Told.{at_most};
-ghost use Rattle.lines.specs.Inside.{shown};
 
 use calls::{Fields, Numbers, lookups};
 use error::Error;
@@ -37,20 +37,10 @@ fn strings(input: &[u8]) -> &[u8]
     octets::tail(input, shape::strings_at(octets::byte_at(input, 0)))
 }
 
-fn first(out: &mut [u8], at: usize, numbers: &[u64], count: usize) -> usize
-    ensures { Laid out.old at (number_fields (shown count numbers.now)) out.new result }
-{
-    if numbers.len() < count {
-        return at;
-    }
-    report::number_fields(out, at, &numbers[0..count])
-}
-
 fn fields(out: &mut [u8], at: usize, told: Fields) -> usize
-    ensures { Laid out.old at (number_fields (shown told.count told.values)) out.new result }
+    ensures { Laid out.old at (number_fields told) out.new result }
 {
-    let values = told.values;
-    first(out, at, &values, told.count)
+    report::number_fields(out, at, told.numbers())
 }
 
 // Call 32.
@@ -62,6 +52,7 @@ fn expanded(value: &[u8], out: &mut [u8], at: usize) -> usize
 }
 
 // A label that was made: its length, and all its bytes.
+#[tactic(auto, using(report::proofs::Pieces::pieces))]
 fn made(label: &Label, out: &mut [u8], at: usize) -> usize
     ensures { Laid out.old at (number_fields (0 ∷ 0 ∷ label.now.len ∷ []) ++ hex_field label.now.bytes) out.new result }
 {
@@ -70,15 +61,11 @@ fn made(label: &Label, out: &mut [u8], at: usize) -> usize
 }
 
 // The same of a refusal: class, reason, no length and no bytes.
+#[tactic(auto, using(report::proofs::Pieces::pieces))]
 fn unmade(e: Error, out: &mut [u8], at: usize) -> usize
     ensures { Laid out.old at (number_fields (class_of e ∷ reason_of e ∷ 0 ∷ []) ++ hex_field []) out.new result }
 {
-    let answer = [
-        u64::from(error::class_of(e)),
-        u64::from(error::reason_of(e)),
-        0,
-    ];
-    let told = report::number_fields(out, at, &answer);
+    let told = report::number_fields(out, at, &carryfs::refused::<3>(e));
     report::hex_field(out, told, b"")
 }
 
@@ -93,6 +80,7 @@ fn label(given: &[u8], out: &mut [u8], at: usize) -> usize
 }
 
 // Two texts in hexadecimal.
+#[tactic(auto, using(report::proofs::Pieces::pieces))]
 fn pair(first: &[u8], second: &[u8], out: &mut [u8], at: usize) -> usize
     ensures { Laid out.old at (hex_field first.now ++ hex_field second.now) out.new result }
 {
@@ -112,7 +100,7 @@ fn named(d: Result<Root, Error>, out: &mut [u8], at: usize) -> usize
 }
 
 // Call 34.
-#[tactic(auto, unfolding(crate::specs::Line::root_told))]
+#[tactic(auto, using(report::proofs::Pieces::pieces), unfolding(crate::specs::Line::root_told))]
 fn decoded(n: Numbers, block: &[u8], out: &mut [u8], at: usize) -> usize
     ensures { Laid out.old at (root_told (root_decode block.now n.a n.b)) out.new result }
 {
@@ -122,7 +110,7 @@ fn decoded(n: Numbers, block: &[u8], out: &mut [u8], at: usize) -> usize
     named(d, out, told)
 }
 
-#[tactic(auto, unfolding(crate::specs::Line::floor_told))]
+#[tactic(auto, using(report::proofs::Pieces::pieces), unfolding(crate::specs::Line::floor_told))]
 fn floor_over(
     n: Numbers,
     payload: &[u8],
@@ -139,18 +127,18 @@ fn floor_over(
 }
 
 // Call 39. The scratch has as many entries as the call says, each of them at the fill.
+// Kept: an array is lent here and for call 43. One function that lends it to a closure would have to say through the closure's `F.post` what became of the scratch and of the buffer, four references in a definition of its own; that is longer than the four lines.
 fn floor(n: Numbers, payload: &[u8], key: &[u8], out: &mut [u8], at: usize) -> usize
     ensures { Laid out.old at (lent n.b (floor_told n payload.now key.now (replicate n.b (at_most 65535 n.c)))) out.new result }
 {
-    let length = n.b as usize;
-    if 4096 < length {
+    let mut scratch = [calls::within(n.c); 4096];
+    let Some(lent) = scratch.get_mut(..n.b as usize) else {
         return at;
-    }
-    let mut scratch = [calls::short(n.c); 4096];
-    floor_over(n, payload, key, &mut scratch[0..length], out, at)
+    };
+    floor_over(n, payload, key, lent, out, at)
 }
 
-#[tactic(auto, unfolding(crate::specs::Line::handed_told))]
+#[tactic(auto, using(report::proofs::Pieces::pieces), unfolding(crate::specs::Line::handed_told))]
 fn handed_over(
     n: Numbers,
     uuid: &[u8],
@@ -171,48 +159,38 @@ fn handed_over(
 fn handed(n: Numbers, uuid: &[u8], page: &[u8], key: &[u8], out: &mut [u8], at: usize) -> usize
     ensures { Laid out.old at (lent n.g (handed_told n uuid.now page.now key.now (replicate n.g 65535))) out.new result }
 {
-    let length = n.g as usize;
-    if 4096 < length {
-        return at;
-    }
     let mut scratch = [65_535u16; 4096];
-    handed_over(n, uuid, page, key, &mut scratch[0..length], out, at)
+    let Some(lent) = scratch.get_mut(..n.g as usize) else {
+        return at;
+    };
+    handed_over(n, uuid, page, key, lent, out, at)
 }
 
-#[tactic(auto, unfolding(crate::specs::Line::answer_told))]
-fn answer(call: u8, n: Numbers, a: &[u8], b: &[u8], out: &mut [u8], at: usize) -> usize
-    ensures { Laid out.old at (answer_told call n a.now b.now) out.new result }
-{
-    match call {
-        32 => expanded(a, out, at),
-        33 => label(a, out, at),
-        34 => decoded(n, a, out, at),
-        39 => floor(n, a, b, out, at),
-        _ => fields(out, at, calls::fields_of(call, n, a, b)),
-    }
-}
-
-#[tactic(auto, unfolding(crate::specs::Line::call_told))]
+// A call's fields, by its number.
+// Kept: the number is a byte of probe's protocol (docs/PROBE.md has the table): an enum of calls would be made from it by a match like this one.
+#[tactic(auto, unfolding(crate::specs::Line::call_told, crate::specs::Line::answer_told))]
 fn told(input: &[u8], out: &mut [u8], at: usize) -> usize
     ensures { Laid out.old at (call_told input.now) out.new result }
 {
     let call = octets::byte_at(input, 0);
-    if call == 41 {
-        return fields(out, at, calls::choice::selected(input));
-    }
     let n = calls::numbers_of(input);
     let front = strings(input);
     let a = string(front);
     let rest = behind_string(front);
     let b = string(rest);
-    if call == 43 {
-        return handed(n, a, b, string(behind_string(rest)), out, at);
+    match call {
+        32 => expanded(a, out, at),
+        33 => label(a, out, at),
+        34 => decoded(n, a, out, at),
+        39 => floor(n, a, b, out, at),
+        41 => fields(out, at, calls::choice::selected(input)),
+        43 => handed(n, a, b, string(behind_string(rest)), out, at),
+        _ => fields(out, at, calls::fields_of(call, n, a, b)),
     }
-    answer(call, n, a, b, out, at)
 }
 
 // The line of a call whose place is given.
-#[tactic(auto, unfolding(crate::specs::Line::call_line))]
+#[tactic(auto, using(report::proofs::Pieces::pieces), unfolding(crate::specs::Line::call_line))]
 pub fn call_line(out: &mut [u8], at: usize, place: u64, input: &[u8]) -> usize
     ensures { Laid out.old at (call_line place input.now) out.new result }
 {

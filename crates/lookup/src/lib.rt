@@ -29,8 +29,8 @@ pub fn split_record(part: &[u8]) -> Option<Lengths>
     if part.len() < 4 {
         return None;
     }
-    let key_len = octets::u16_at(part, 0) as usize;
-    let value_len = octets::u16_at(part, 2) as usize;
+    let key_len = usize::from(octets::u16_at(part, 0));
+    let value_len = usize::from(octets::u16_at(part, 2));
     if part.len() < 4 + key_len + value_len {
         return None;
     }
@@ -51,7 +51,7 @@ pub fn look_at(part: &[u8], key: &[u8]) -> Option<usize>
 }
 
 // Where the record at a place ends; none where it is broken.
-// Kept: with split_record of the rest in its place a lookup takes 1.19 of the time.
+// Kept: with split_record of the rest in its place a lookup takes 1.19 of the time, and misses the goal for lookups (docs/SPEED.md).
 #[tactic(auto, using(crate::proofs::RecordLaws::end_short, crate::proofs::RecordLaws::end_broken, crate::proofs::RecordLaws::end_at))]
 fn record_end(part: &[u8], at: usize) -> Option<usize>
     requires { (at ≤ length part.now) × (length part.now ≤ 65535) }
@@ -61,7 +61,9 @@ fn record_end(part: &[u8], at: usize) -> Option<usize>
     if part.len() < start {
         return None;
     }
-    let end = start + octets::u16_at(part, at) as usize + octets::u16_at(part, at + 2) as usize;
+    let end = start
+        + usize::from(octets::u16_at(part, at))
+        + usize::from(octets::u16_at(part, at + 2));
     if part.len() < end {
         return None;
     }
@@ -82,6 +84,7 @@ fn fill_offsets(part: &[u8], offsets: &mut [u16]) -> Option<()>
 }
 
 // The walk from the front, which stops at a record above the key and at a broken one.
+// Kept: a place that goes on by each record's own length: as an iterator it is `map_while(..).last()` whose closure writes to `position` outside it.
 fn walk_floor(part: &[u8], count: usize, key: &[u8]) -> Option<Floor>
     ensures { result ≡ walk_floor part.now key.now count 0 0 None }
 {
@@ -107,7 +110,7 @@ fn above_at(part: &[u8], at: usize, key: &[u8]) -> bool
     ensures { result ≡ above_at part.now key.now at }
 {
     let start = at + 4;
-    let end = start + octets::u16_at(part, at) as usize;
+    let end = start + usize::from(octets::u16_at(part, at));
     octets::is_above(&part[start..end], key)
 }
 
@@ -121,7 +124,7 @@ fn bisect_records(part: &[u8], key: &[u8], offsets: &[u16]) -> Option<Floor>
     let mut high = offsets.len();
     while low < high {
         let middle = (low + high) / 2;
-        let at = offsets[middle] as usize;
+        let at = usize::from(offsets[middle]);
         if above_at(part, at, key) {
             high = middle;
         } else {
@@ -129,11 +132,12 @@ fn bisect_records(part: &[u8], key: &[u8], offsets: &[u16]) -> Option<Floor>
         }
     }
     let index = low.checked_sub(1)?;
-    let offset = offsets[index] as usize;
+    let offset = usize::from(offsets[index]);
     Some(Floor { index, offset })
 }
 
 // The floor lookup. The scratch is written where it has an entry for each record and the part has at most 65,535 bytes.
+// Kept, here and in `floor_answer`: part and count, as callers give them today: a struct would ask another thing of them. Page's view has them in one.
 pub fn floor_at(part: &[u8], count: usize, key: &[u8], scratch: &mut [u16]) -> Option<Floor>
     ensures { (result ≡ floor_at part.now count key.now (length scratch.old)) × (scratch.new ≡ scratch_of part.now count scratch.old) }
 {
@@ -149,7 +153,7 @@ pub fn floor_at(part: &[u8], count: usize, key: &[u8], scratch: &mut [u16]) -> O
 }
 
 // The record that a lookup finds: its index, how many records there are from it on, and where these start and end in the part.
-// Kept: places, here and in `Step`, not parts: the C interface hands them on.
+// Kept: places, here and in `Step`, not parts: the C interface hands them on. Its end is the part's: that it is said here was promised.
 #[derive(Clone, Copy)]
 pub struct Answer {
     pub index: usize,

@@ -1,9 +1,9 @@
 -- Laws of `every` and `through`: a test at each number below n, and the last number below n at which it holds.
 use mathlib.Core.Path.{◌≡◌, refl, sym, ap, ◌∙◌}
-use mathlib.Core.Bool.{Bool, true, false, cond, ◌&&◌, and-false, true≢false}
+use mathlib.Core.Bool.{Bool, true, false, cond, ◌&&◌, and-false, and_assoc, true≢false}
 use mathlib.Core.Logic.{◌⊎◌, inl, inr}
 use Prim.Native.Nat.{ℕ, zero, suc, ◌+◌, ◌≤◌, ◌<◌}
-use native.Mathlib.Nat.{eq-or-lt_of_le, le_of_suc-le-suc, not-suc-le-zero}
+use native.Mathlib.Nat.{add-zero, add-suc, eq-or-lt_of_le, le_of_suc-le-suc, not-suc-le-zero}
 use native.Mathlib.Numerals.{add-one}
 use native.Mathlib.Omega.{arith}
 use Rattle.octets.specs.Below.{every, through}
@@ -35,6 +35,15 @@ every_false f (suc n) i h e = go (λ l. every_false f n i l e) (last h)
 
 pub every_more : (f : ℕ → Bool) (n : ℕ) → every f n ≡ true → f n ≡ true → every f (n + 1) ≡ true
 every_more f n e h = rw (add-one, h, e)
+
+-- at the first m + n numbers: at the n from m on, and at the first m
+pub every_join : (f : ℕ → Bool) (m n : ℕ) → every f (m + n) ≡ (every (λ (j : ℕ). f (m + j)) n && every f m)
+every_join f m zero = ap (every f) (add-zero m)
+every_join f m (suc n) = rw (add-suc m n, every_join f m n) (sym (and_assoc (f (m + n)) (every (λ (j : ℕ). f (m + j)) n) (every f m)))
+
+pub every_same : (f h : ℕ → Bool) (n : ℕ) → ((j : ℕ) → j < n → f j ≡ h j) → every f n ≡ every h n
+every_same f h zero e = refl
+every_same f h (suc n) e = rw (e n (omega arith), every_same f h n (λ j l. e j (omega arith)))
 
 -- above m the test holds nowhere
 pub through_none : (f : ℕ → Bool) (m n : ℕ) → m ≤ n → ((s : ℕ) → m ≤ s → s < n → f s ≡ false) → through f n ≡ through f m

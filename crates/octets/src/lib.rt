@@ -27,6 +27,7 @@ fn read_array<const N: usize>(bytes: &[u8], offset: usize, reason: u16) -> Resul
 }
 
 // The N bytes at a place, zeros for those past the end.
+// Kept: a match: tried as `unwrap_or_else`: of what a closure over a generic function gives nothing is known.
 fn filled_at<const N: usize>(bytes: &[u8], at: usize) -> [u8; N]
     ensures { result ≡ padded_to N (drop at bytes.now) }
 {
@@ -37,7 +38,7 @@ fn filled_at<const N: usize>(bytes: &[u8], at: usize) -> [u8; N]
 }
 
 // The u16 at an offset, or corruption with the caller's reason.
-// Kept: a name for each width, here and at `u16_at`, as in the Rust; each is a line over one reader.
+// Kept: a name for each width, here and at `u16_at`, each a line over one reader: `read::<u16>(..)` would need a trait with an impl of that line for each of the three.
 pub fn read_u16_le(bytes: &[u8], offset: usize, reason: u16) -> Result<u16, Error>
     ensures { result ≡ read_of bytes.now offset 2 reason }
 {
@@ -116,6 +117,7 @@ pub fn all_zero(bytes: &[u8]) -> bool
 }
 
 // Whether two parts hold the same bytes.
+// Kept, with `starts_with` and `compare` below: a public function may not go; each is already a line over the library, and callers' proofs go by our definition.
 pub fn same_bytes(a: &[u8], b: &[u8]) -> bool
     ensures { result ≡ same_bytes a.now b.now }
 {
@@ -145,6 +147,7 @@ fn eight(bytes: &[u8], at: usize) -> [u8; 8]
 }
 
 // Where eight bytes decide the order: the first that differ of those at 0, 8, 16 and so on, or the last eight of the shorter string.
+// Kept: a `for` that returns: with `find` the closure, which reads eight bytes at each place, needs a `requires` of its own: that they stand there.
 fn deciding_group(a: &[u8], b: &[u8], last: usize) -> usize
     requires { last + 8 ≡ min (length a.now) (length b.now) }
     ensures { Decides a.now b.now result }
@@ -169,7 +172,7 @@ fn above_group(a: &[u8], b: &[u8], at: usize) -> bool
     b.len() < a.len()
 }
 
-// Kept: by the library's order, `a.cmp(b).is_gt()`, a halving search among keys of 44 bytes takes 2.3 of the time.
+// Kept: by the library's order, `a.cmp(b).is_gt()`, a halving search among keys of 44 bytes takes 2.3 of the time, and misses the goal for lookups (docs/SPEED.md).
 // Whether the first string is above the second. No branch goes by which of two differing groups is the larger: for sought keys that can't be foretold.
 pub fn is_above(a: &[u8], b: &[u8]) -> bool
     ensures { result ≡ is_greater (order a.now b.now) }
@@ -182,6 +185,7 @@ pub fn is_above(a: &[u8], b: &[u8]) -> bool
 }
 
 // Lays bytes into a lent buffer from a place on, and says where they end; what the buffer has no room for is left out.
+// Kept: `out` and `at`: fixed memory; the promise speaks of the whole buffer, before and after, and a writer in its place would need a second clause.
 pub fn put(out: &mut [u8], at: usize, bytes: &[u8]) -> usize
     ensures { Laid out.old at bytes.now out.new result }
 {

@@ -45,6 +45,7 @@ fn check_format(page: &[u8]) -> Result<(), Error>
 }
 
 // The page is a leaf, 1, or an internal page, 2.
+// Kept, here and where the kind decides: it is the byte that is stored: this is the test of it, and the definitions of the others answer for every byte.
 #[tactic(auto, unfolding(crate::specs::Header::is_page_kind))]
 fn is_page_kind(page: &[u8]) -> bool
     ensures { result ≡ is_page_kind page.now }
@@ -134,6 +135,7 @@ fn total_allowed(kind: TreeKind, page: &[u8]) -> bool
 }
 
 // What a caller asks for: the page's reference, the volume's UUID, the tree, its parent's generation, and the level, if one is expected.
+// Kept in definitions: they take the five by themselves, as the theorems and READING-RULES 7.2 name them, and a reader ticks them one by one.
 #[derive(Clone, Copy)]
 pub(crate) struct Asked<'a> {
     pub reference: TreeRef,
@@ -236,4 +238,26 @@ impl Asked<'_> {
             && is_expected(self.expected, page)
             && has_uuid(self.uuid, page)
     }
+}
+
+// Every check of the header.
+pub fn validate_page_header(
+    reference: TreeRef,
+    uuid: &[u8; 16],
+    kind: TreeKind,
+    parent: u64,
+    expected: Option<u8>,
+    blocks: u64,
+    page: &[u8],
+) -> Result<(), Error>
+    ensures { result ≡ validate_page_header reference uuid.now kind parent expected blocks page.now }
+{
+    let asked = Asked {
+        reference,
+        uuid,
+        kind,
+        parent,
+        expected,
+    };
+    asked.validate_page_header(blocks, page)
 }

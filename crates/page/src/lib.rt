@@ -130,7 +130,7 @@ fn accepted_page(page: &[u8]) -> Page
 }
 
 // Validate the page that the reference names; the answer in numbers.
-// Kept: the Rust's parameter list, here and below; inside, what is asked for is one struct.
+// Kept, here, below and in `header::validate_page_header`: the parameters that callers give today; a struct in their place would ask another thing of them. Inside, it is one.
 #[tactic(auto, unfolding(crate::specs::Page::decode_page, error::specs::Demand::outcome))]
 pub fn page_answer(
     page: &[u8],
@@ -143,14 +143,7 @@ pub fn page_answer(
 ) -> Result<Page, Error>
     ensures { result ≡ decode_page reference uuid.now kind parent expected blocks page.now }
 {
-    let asked = Asked {
-        reference,
-        uuid,
-        kind,
-        parent,
-        expected,
-    };
-    asked.validate_page_header(blocks, page)?;
+    header::validate_page_header(reference, uuid, kind, parent, expected, blocks, page)?;
     check_content(kind, blocks, page)?;
     Ok(accepted_page(page))
 }

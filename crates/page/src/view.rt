@@ -7,6 +7,7 @@ ghost use Rattle.page.specs.View.{IsView, Found, Stepped};
 use crate::Page;
 
 // What was read of a page, and its payload in place.
+// Kept, here and in `Records`: a count beside the bytes: it is the one that the page states, and no length of theirs: records are of any size.
 #[derive(Clone, Copy)]
 pub struct PageView<'a> {
     pub level: u8,

@@ -11,10 +11,15 @@ use std::io;
 // Standard input comes through a window of so many bytes.
 const WINDOW_BYTES: usize = 262_144;
 
-type Window = [u8; WINDOW_BYTES];
+// What the two ends of the program are called where one fails.
+const READING: &[u8] = b"probe: reading standard input";
+
+const WRITING: &[u8] = b"probe: writing standard output";
 
 // Where the run stands: the next call's place, where it starts in the window and where what is read ends there, and where the next line
 // starts.
+// Kept: `at` and `have` stand beside the window, not a slice of it: memory is fixed, and what is read comes into the same window, which a
+// slice kept from call to call would lend out.
 #[derive(Clone, Copy)]
 struct Stand {
     place: u64,
@@ -25,106 +30,89 @@ struct Stand {
     ghost in_window: { have ≤ 262144 },
 }
 
-fn flush(rt: &HostRuntime, out: &[u8], used: usize) -> bool {
-    let what = b"probe: writing standard output";
-    stream::send(&mut rt.stdout(), &mut rt.stderr(), out, used, what)
+// What the program reads from and writes to: the window that calls come through, and the lines that wait.
+#[derive(Drop)]
+struct Run {
+    rt: HostRuntime,
+    input: io::Stdin,
+    window: [u8; WINDOW_BYTES],
+    out: [u8; 65_536],
 }
 
-// Behind a call that was answered.
-fn behind(rt: &HostRuntime, s: Stand, length: usize, end: usize, out: &[u8]) -> Option<Stand> {
-    let what = b"probe: writing standard output";
-    let used = stream::room(&mut rt.stdout(), &mut rt.stderr(), out, end, what)?;
-    Some(Stand {
-        place: s.place.saturating_add(1),
-        at: s.at.saturating_add(length).min(s.have),
-        have: s.have,
-        used,
-    })
-}
-
-// The last line stands in a buffer of its own, and goes out behind those that wait; no call follows.
-fn last(rt: &HostRuntime, place: u64, is_whole: bool) -> Option<Stand> {
-    let mut line = [0u8; 32];
-    let end = if is_whole {
-        report::end_line(&mut line, 0, place)
-    } else {
-        report::cut_line(&mut line, 0, place)
-    };
-    flush(rt, &line, end);
-    None
-}
-
-// Behind a call that is unknown or outside the limits.
-fn cut(rt: &HostRuntime, s: Stand, out: &[u8]) -> Option<Stand> {
-    if !flush(rt, out, s.used) {
-        return None;
+impl Run {
+    // Sends the lines that wait up to a place.
+    // Kept, as in readback: two programs, each with its own struct and messages: a function of both would take what `stream::send` takes.
+    fn flush(&self, used: usize) -> Option<()> {
+        let lines = octets::span(&self.out, 0, used);
+        stream::send(&mut self.rt.stdout(), &mut self.rt.stderr(), lines, WRITING)
     }
-    last(rt, s.place, false)
-}
 
-// Sends the lines that wait, and reads on behind a call that isn't whole.
-fn refilled(
-    rt: &HostRuntime,
-    input: &mut io::Stdin,
-    s: Stand,
-    window: &mut Window,
-    out: &[u8],
-) -> Option<Stand> {
-    if !flush(rt, out, s.used) {
-        return None;
+    // Sends them where the last line ends; no call follows.
+    fn last(&self, end: usize) -> Option<Stand> {
+        self.flush(end)?;
+        None
     }
-    // What is read and not yet answered comes to the window's front.
-    window.copy_within(s.at..s.have, 0);
-    let kept = s.have - s.at;
-    match stream::read_behind(input, window, kept) {
-        Ok(Some(have)) => Some(Stand {
-            place: s.place,
-            at: 0,
-            have,
-            used: 0,
-        }),
-        Ok(None) => last(rt, s.place, kept == 0),
-        Err(why) => {
-            let what = b"probe: reading standard input";
-            let _ = stream::fail(&mut rt.stderr(), what, why);
-            None
+
+    // Behind a call that was answered.
+    fn behind(&self, s: Stand, length: usize, end: usize) -> Option<Stand> {
+        let used = stream::room(
+            &mut self.rt.stdout(),
+            &mut self.rt.stderr(),
+            &self.out,
+            end,
+            WRITING,
+        )?;
+        Some(Stand {
+            place: s.place.saturating_add(1),
+            at: s.at.saturating_add(length).min(s.have),
+            have: s.have,
+            used,
+        })
+    }
+
+    // Sends the lines that wait, and reads on behind a call that isn't whole.
+    fn refilled(&mut self, s: Stand) -> Option<Stand> {
+        self.flush(s.used)?;
+        // What is read and not yet answered comes to the window's front.
+        self.window.copy_within(s.at..s.have, 0);
+        let kept = s.have - s.at;
+        match stream::read_behind(&mut self.input, &mut self.window, kept) {
+            Ok(Some(have)) => Some(Stand {
+                place: s.place,
+                at: 0,
+                have,
+                used: 0,
+            }),
+            Ok(None) if kept == 0 => {
+                let end = report::end_line(&mut self.out, 0, s.place);
+                self.last(end)
+            }
+            Ok(None) => {
+                let end = report::cut_line(&mut self.out, 0, s.place);
+                self.last(end)
+            }
+            Err(why) => {
+                let _ = stream::fail(&mut self.rt.stderr(), READING, why);
+                None
+            }
         }
     }
-}
 
-// One call, or none where the input has ended or can't be read, the call can't be answered or nothing can be written.
-fn step(
-    rt: &HostRuntime,
-    input: &mut io::Stdin,
-    s: Stand,
-    window: &mut Window,
-    out: &mut [u8],
-) -> Option<Stand> {
-    let call = &window[s.at..s.have];
-    match shape::read_call(call) {
-        Ok(length) => {
-            let end = lines::call_line(out, s.used, s.place, call);
-            behind(rt, s, length, end, out)
+    // One call, or none where the input has ended or can't be read, the call can't be answered or nothing can be written.
+    fn step(&mut self, s: Stand) -> Option<Stand> {
+        let Run { window, out, .. } = self;
+        let call = &window[s.at..s.have];
+        match shape::read_call(call) {
+            Ok(length) => {
+                let end = lines::call_line(out, s.used, s.place, call);
+                self.behind(s, length, end)
+            }
+            Err(Fault::Outside) => {
+                let end = report::cut_line(out, s.used, s.place);
+                self.last(end)
+            }
+            Err(Fault::Short) => self.refilled(s),
         }
-        Err(Fault::Outside) => cut(rt, s, out),
-        Err(Fault::Short) => refilled(rt, input, s, window, out),
-    }
-}
-
-// A proved loop has to end, and nothing says that the input does: no run comes to the last turn.
-fn run(rt: &HostRuntime, window: &mut Window, out: &mut [u8]) {
-    let mut input = rt.stdin();
-    let mut s = Stand {
-        place: 0,
-        at: 0,
-        have: 0,
-        used: octets::put(out, 0, b"probe 1\n"),
-    };
-    for _ in 0..u64::MAX {
-        let Some(next) = step(rt, &mut input, s, window, out) else {
-            return;
-        };
-        s = next;
     }
 }
 
@@ -134,7 +122,18 @@ fn main(rt: HostRuntime) {
         let _ = rt.eprintln("usage: probe < FILE  (calls on standard input)");
         return;
     }
-    let mut window = [0u8; WINDOW_BYTES];
-    let mut out = [0u8; 65_536];
-    run(&rt, &mut window, &mut out);
+    let mut run = Run {
+        input: rt.stdin(),
+        rt,
+        window: [0; WINDOW_BYTES],
+        out: [0; 65_536],
+    };
+    let start = Stand {
+        place: 0,
+        at: 0,
+        have: 0,
+        used: octets::put(&mut run.out, 0, b"probe 1\n"),
+    };
+    // A proved loop has to end, and nothing says that the input does: no run comes to the last turn.
+    let _ = (0..u64::MAX).try_fold(start, |s, _| run.step(s));
 }

@@ -4,92 +4,104 @@
 use std::env::{Env, FillError};
 use std::io;
 
-// What came of one body: the place behind its line, or why there is none.
-// Kept: three outcomes, each with an end of its own; a read that fails is the Err around them.
+// What the two ends of the program are called where one fails.
+const READING: &[u8] = b"readback: reading standard input";
+
+const WRITING: &[u8] = b"readback: writing standard output";
+
+// Why a body has no line.
 #[derive(Drop)]
-enum Body {
-    Answered(usize),
+enum Stop {
+    // It is short, or its kind or its tree's kind is unknown.
     Cut,
+    // None follows.
     End,
+    // A read failed.
+    Failed(io::Error),
 }
 
-fn root_turn(input: &mut io::Stdin, number: u64, out: &mut [u8], at: usize) -> io::Result<Body> {
-    let mut body = [0u8; body::ROOT_BODY_BYTES];
-    if stream::fill(input, &mut body)? < body.len() {
-        return Ok(Body::Cut);
-    }
-    Ok(Body::Answered(body::root_body_line(out, at, number, &body)))
-}
-
-fn page_turn(input: &mut io::Stdin, number: u64, out: &mut [u8], at: usize) -> io::Result<Body> {
-    let mut body = [0u8; body::PAGE_BODY_BYTES];
-    if stream::fill(input, &mut body)? < body.len() {
-        return Ok(Body::Cut);
-    }
-    if !body::names_a_tree(&body) {
-        return Ok(Body::Cut);
-    }
-    Ok(Body::Answered(body::page_body_line(out, at, number, &body)))
-}
-
-// Kept: a body's kind is a byte of the input.
-fn one_body(input: &mut io::Stdin, number: u64, out: &mut [u8], at: usize) -> io::Result<Body> {
-    let mut kind = [0u8; 1];
-    if stream::fill(input, &mut kind)? < kind.len() {
-        return Ok(Body::End);
-    }
-    match kind {
-        [1] => root_turn(input, number, out, at),
-        [2] => page_turn(input, number, out, at),
-        _ => Ok(Body::Cut),
+impl From<io::Error> for Stop {
+    fn from(why: io::Error) -> Stop {
+        Stop::Failed(why)
     }
 }
 
-// Sends what waits; no line follows.
-fn last(rt: &HostRuntime, out: &[u8], used: usize) -> Option<usize> {
-    let what = b"readback: writing standard output";
-    stream::send(&mut rt.stdout(), &mut rt.stderr(), out, used, what);
-    None
+// The bytes of a body behind its kind.
+fn whole<const N: usize>(input: &mut io::Stdin) -> Result<[u8; N], Stop> {
+    let mut body = [0u8; N];
+    if stream::fill(input, &mut body)? < N {
+        return Err(Stop::Cut);
+    }
+    Ok(body)
 }
 
-// Where the next line starts behind a body's, or None behind the last one; where a read failed there is none.
-fn turn(
-    rt: &HostRuntime,
-    input: &mut io::Stdin,
-    number: u64,
-    out: &mut [u8],
-    at: usize,
-) -> Option<usize> {
-    match one_body(input, number, out, at) {
-        Ok(Body::Answered(place)) => {
-            let what = b"readback: writing standard output";
-            stream::room(&mut rt.stdout(), &mut rt.stderr(), out, place, what)
+// What the program reads from and writes to, and the lines that wait.
+#[derive(Drop)]
+struct Run {
+    rt: HostRuntime,
+    input: io::Stdin,
+    out: [u8; 65_536],
+}
+
+impl Run {
+    fn root_turn(&mut self, at: usize, number: u64) -> Result<usize, Stop> {
+        let body: [u8; body::ROOT_BODY_BYTES] = whole(&mut self.input)?;
+        Ok(body::root_body_line(&mut self.out, at, number, &body))
+    }
+
+    fn page_turn(&mut self, at: usize, number: u64) -> Result<usize, Stop> {
+        let body: [u8; body::PAGE_BODY_BYTES] = whole(&mut self.input)?;
+        if !body::names_a_tree(&body) {
+            return Err(Stop::Cut);
         }
-        Ok(Body::Cut) => {
-            let whole = report::cut_line(out, at, number);
-            last(rt, out, whole)
+        Ok(body::page_body_line(&mut self.out, at, number, &body))
+    }
+
+    // The place behind the line of the next body.
+    fn body_turn(&mut self, at: usize, number: u64) -> Result<usize, Stop> {
+        let mut kind = [0u8; 1];
+        if stream::fill(&mut self.input, &mut kind)? < kind.len() {
+            return Err(Stop::End);
         }
-        Ok(Body::End) => {
-            let whole = report::end_line(out, at, number);
-            last(rt, out, whole)
-        }
-        Err(why) => {
-            let what = b"readback: reading standard input";
-            let _ = stream::fail(&mut rt.stderr(), what, why);
-            last(rt, out, at)
+        // Kept: the kind is a byte of the input, asked for here alone: an enum of kinds would be made by a match like this one.
+        match kind {
+            [1] => self.root_turn(at, number),
+            [2] => self.page_turn(at, number),
+            _ => Err(Stop::Cut),
         }
     }
-}
 
-// A proved loop has to end, and nothing says that the input does: no run comes to the last number.
-fn run(rt: &HostRuntime, out: &mut [u8]) {
-    let mut input = rt.stdin();
-    let mut used = report::head_line(out, 0);
-    for number in 0..u64::MAX {
-        let Some(place) = turn(rt, &mut input, number, out, used) else {
-            return;
-        };
-        used = place;
+    // Sends the lines that wait, up to a place; none follows.
+    // Kept, as in probe: two programs, each with its own struct and messages: a function of both would take what `stream::send` takes.
+    fn last(&self, end: usize) -> Option<usize> {
+        let lines = octets::span(&self.out, 0, end);
+        stream::send(&mut self.rt.stdout(), &mut self.rt.stderr(), lines, WRITING)?;
+        None
+    }
+
+    // Where the next line starts behind a body's, or None behind the last one; where a read failed there is none.
+    fn turn(&mut self, at: usize, number: u64) -> Option<usize> {
+        match self.body_turn(at, number) {
+            Ok(place) => stream::room(
+                &mut self.rt.stdout(),
+                &mut self.rt.stderr(),
+                &self.out,
+                place,
+                WRITING,
+            ),
+            Err(Stop::Cut) => {
+                let end = report::cut_line(&mut self.out, at, number);
+                self.last(end)
+            }
+            Err(Stop::End) => {
+                let end = report::end_line(&mut self.out, at, number);
+                self.last(end)
+            }
+            Err(Stop::Failed(why)) => {
+                let _ = stream::fail(&mut self.rt.stderr(), READING, why);
+                self.last(at)
+            }
+        }
     }
 }
 
@@ -101,6 +113,12 @@ fn main(rt: HostRuntime) {
         );
         return;
     }
-    let mut out = [0u8; 65_536];
-    run(&rt, &mut out);
+    let mut run = Run {
+        input: rt.stdin(),
+        rt,
+        out: [0; 65_536],
+    };
+    let used = report::head_line(&mut run.out, 0);
+    // A proved loop has to end, and nothing says that the input does: no run comes to the last number.
+    let _ = (0..u64::MAX).try_fold(used, |at, number| run.turn(at, number));
 }

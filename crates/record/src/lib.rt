@@ -3,7 +3,7 @@
 
 ghost use Rattle.std.specs.Prelude.{◌≡◌, ◌≤◌, length};
 ghost use Rattle.record.specs.Allocation.{validate_group_index, block_taken, taken_between, reserved_taken, validate_allocation_group};
-ghost use Rattle.record.specs.Inside.{full_byte, catalog_leaf};
+ghost use Rattle.record.specs.Inside.{bytes_full, catalog_leaf};
 ghost use Rattle.record.specs.Cleanup.{validate_retirement, is_kind_range, validate_detached_tree, validate_orphan_marker, validate_cleanup_key_value, cleanup_number, cleanup_block};
 ghost use Rattle.record.specs.Workspace.{validate_workspace_key, validate_workspace_run};
 ghost use Rattle.record.specs.Internal.{allocation_internal_key, retirement_key, cleanup_internal_key, internal_key, validate_internal_record};
@@ -47,32 +47,40 @@ fn block_taken(bitmap: &[u8; ALLOCATION_GROUP_BYTES], block: u64) -> bool
     bitmap[bit / 8] & (1 << (bit % 8)) != 0
 }
 
-// Whether a byte of the bitmap starts at a block, all its eight blocks are among those left, and all are taken.
-fn full_byte(bitmap: &[u8; ALLOCATION_GROUP_BYTES], block: u64, left: u64) -> bool
-    ensures { result ≡ full_byte bitmap.now block left }
+// Whether each block from start up to but not including end is taken, bit by bit.
+fn bits_taken(bitmap: &[u8; ALLOCATION_GROUP_BYTES], start: u64, end: u64) -> bool
+    ensures { result ≡ taken_between bitmap.now start end }
 {
-    let bit = (block % volume::ALLOCATION_GROUP_BLOCKS) as usize;
-    (block % 8 == 0) & (8 <= left) & (bitmap[bit / 8] == 255)
+    (start..end).all(|block| block_taken(bitmap, block))
 }
 
-// Whether each block from start up to but not including end is taken; full bytes are passed over at once.
-// Kept: a loop by hand, it steps by 8 or by 1; bit by bit the last group takes 5.6 times as long, the first 2.6 times.
-#[tactic(auto, using(crate::proofs::Taken::walk))]
+// Whether each of some bytes of the bitmap has its eight blocks taken.
+fn bytes_full(bytes: &[u8]) -> bool
+    ensures { result ≡ bytes_full bytes.now }
+{
+    bytes.iter().all(|&byte| byte == 255)
+}
+
+// The same as `bits_taken`; the bytes of the bitmap that lie wholly within the range are looked at as bytes.
 fn taken_between(bitmap: &[u8; ALLOCATION_GROUP_BYTES], start: u64, end: u64) -> bool
     ensures { result ≡ taken_between bitmap.now start end }
 {
-    let mut block = start;
-    while block < end {
-        if full_byte(bitmap, block, end - block) {
-            block += 8;
-            continue;
-        }
-        if !block_taken(bitmap, block) {
-            return false;
-        }
-        block += 1;
+    let first = start.div_ceil(8);
+    let last = end / 8;
+    if last <= first {
+        return bits_taken(bitmap, start, end);
     }
-    true
+    let at = (first % 2048) as usize;
+    let Some(whole) = bitmap.get(at..at + (last - first) as usize) else {
+        return bits_taken(bitmap, start, end);
+    };
+    if !bytes_full(whole) {
+        return false;
+    }
+    if !bits_taken(bitmap, start, 8 * first) {
+        return false;
+    }
+    bits_taken(bitmap, 8 * last, end)
 }
 
 // Whether the blocks of a group that can never be allocated are taken.
@@ -115,36 +123,106 @@ pub fn validate_allocation_group(
     Ok(())
 }
 
-// Check a retired run of blocks.
-// Kept: blocks, page_generation and mode stay parameters of their own, as in the Rust's public functions; a struct would only be made in each of those and taken apart below.
-#[tactic(auto, unfolding(crate::specs::Cleanup::validate_retirement, crate::specs::Cleanup::is_retirement_range, error::specs::Demand::outcome))]
-fn validate_retirement(
-    key: &[u8],
-    value: &[u8],
+// What a record of a page is held to: the volume's blocks, the page's generation, and who is told.
+// Kept: the public functions take the three by themselves: a parameter of this type would ask a new thing of their callers.
+#[derive(Clone, Copy)]
+struct Context {
     blocks: u64,
     page_generation: u64,
     mode: Validation,
-) -> Result<(), Error>
-    ensures { result ≡ validate_retirement key.now value.now blocks page_generation mode }
-{
-    if key.len() != 17 || value.len() != 8 {
-        return Err(error::violation(mode, reason::INVALID_RETIREMENT_RECORD));
-    }
-    let generation = octets::big_at(key, 1);
-    let first = octets::big_at(key, 9);
-    let count = u64::from(octets::u32_at(value, 0));
-    if !volume::sum_fits(first, count) {
-        return Err(error::violation(mode, reason::RETIREMENT_RANGE));
-    }
-    if generation == 0
-        || page_generation < generation
-        || count == 0
-        || octets::u32_at(value, 4) != 0
-        || !volume::is_nonreserved_run(first, count, blocks)
+}
+
+impl Context {
+    // Check a retired run of blocks.
+    #[tactic(auto, unfolding(crate::specs::Cleanup::validate_retirement, crate::specs::Cleanup::is_retirement_range, error::specs::Demand::outcome))]
+    fn validate_retirement(self, key: &[u8], value: &[u8]) -> Result<(), Error>
+        ensures { result ≡ validate_retirement key.now value.now self.blocks self.page_generation self.mode }
     {
-        return Err(error::violation(mode, reason::INVALID_RETIREMENT_RANGE));
+        if key.len() != 17 || value.len() != 8 {
+            return Err(error::violation(self.mode, reason::INVALID_RETIREMENT_RECORD));
+        }
+        let generation = octets::big_at(key, 1);
+        let first = octets::big_at(key, 9);
+        let count = u64::from(octets::u32_at(value, 0));
+        if !volume::sum_fits(first, count) {
+            return Err(error::violation(self.mode, reason::RETIREMENT_RANGE));
+        }
+        if !(1..=self.page_generation).contains(&generation)
+            || count == 0
+            || octets::u32_at(value, 4) != 0
+            || !volume::is_nonreserved_run(first, count, self.blocks)
+        {
+            return Err(error::violation(self.mode, reason::INVALID_RETIREMENT_RANGE));
+        }
+        Ok(())
     }
-    Ok(())
+
+    // Check a detached tree.
+    #[tactic(auto, unfolding(crate::specs::Cleanup::validate_detached_tree, error::specs::Demand::outcome))]
+    fn validate_detached_tree(self, key: &[u8], value: &[u8]) -> Result<(), Error>
+        ensures { result ≡ validate_detached_tree key.now value.now self.blocks self.page_generation self.mode }
+    {
+        if key.len() != 9 || value.len() != 32 {
+            return Err(error::violation(self.mode, reason::INVALID_DETACHED_TREE_JOB));
+        }
+        catalog::validate_owner_id(octets::big_at(key, 1), self.mode)?;
+        catalog::validate_owner_id(octets::u64_at(value, 0), self.mode)?;
+        if !is_kind_range(value) {
+            return Err(error::violation(self.mode, reason::INVALID_DETACHED_TREE_KIND_RANGE));
+        }
+        let tree = volume::ref_at(value, 16);
+        volume::validate_tree_ref(tree, self.blocks, self.mode)?;
+        if self.page_generation < tree.generation {
+            return Err(error::violation(self.mode, reason::DETACHED_TREE_REFERENCE_IS_NEWER));
+        }
+        Ok(())
+    }
+
+    // Check a retirement's key in an internal page.
+    #[tactic(auto, unfolding(crate::specs::Internal::retirement_key, error::specs::Demand::outcome))]
+    fn retirement_key(self, key: &[u8]) -> Result<(), Error>
+        ensures { result ≡ retirement_key (cleanup_number key.now) (cleanup_block key.now) self.blocks self.page_generation self.mode }
+    {
+        let generation = octets::big_at(key, 1);
+        if !(1..=self.page_generation).contains(&generation) {
+            return Err(error::violation(self.mode, reason::INVALID_RETIREMENT_GENERATION));
+        }
+        if !volume::is_nonreserved_block(octets::big_at(key, 9), self.blocks) {
+            return Err(error::violation(self.mode, reason::INVALID_RETIREMENT_BLOCK));
+        }
+        Ok(())
+    }
+
+    // Check a key of an internal page of the cleanup tree.
+    #[tactic(auto, unfolding(crate::specs::Internal::cleanup_internal_key))]
+    fn cleanup_internal_key(self, key: &[u8]) -> Result<(), Error>
+        ensures { result ≡ cleanup_internal_key key.now self.blocks self.page_generation self.mode }
+    {
+        match octets::byte_at(key, 0) {
+            1 if key.len() == 17 => self.retirement_key(key),
+            2 | 3 if key.len() == 9 => catalog::validate_owner_id(
+                octets::big_at(key, 1),
+                self.mode,
+            ),
+            _ => Err(error::violation(self.mode, reason::INVALID_CLEANUP_INTERNAL_KEY)),
+        }
+    }
+
+    // Check a key of an internal page, by the tree's kind.
+    #[tactic(auto, unfolding(crate::specs::Internal::internal_key))]
+    fn internal_key(self, kind: TreeKind, key: &[u8]) -> Result<(), Error>
+        ensures { result ≡ internal_key kind key.now self.blocks self.page_generation self.mode }
+    {
+        match kind {
+            TreeKind::Catalog => {
+                catalog::validate_catalog_key(key, self.mode)?;
+                Ok(())
+            }
+            TreeKind::Allocation => allocation_internal_key(key, self.blocks, self.mode),
+            TreeKind::Cleanup => self.cleanup_internal_key(key),
+            TreeKind::Workspace => validate_workspace_key(key, self.blocks, self.mode),
+        }
+    }
 }
 
 // Whether the kinds of a detached tree run from low to high within 1 to 4, with zeros behind them.
@@ -161,33 +239,6 @@ fn is_kind_range(value: &[u8]) -> bool
         & octets::all_zero(&value[10..16])
 }
 
-// Check a detached tree.
-#[tactic(auto, unfolding(crate::specs::Cleanup::validate_detached_tree, error::specs::Demand::outcome))]
-fn validate_detached_tree(
-    key: &[u8],
-    value: &[u8],
-    blocks: u64,
-    page_generation: u64,
-    mode: Validation,
-) -> Result<(), Error>
-    ensures { result ≡ validate_detached_tree key.now value.now blocks page_generation mode }
-{
-    if key.len() != 9 || value.len() != 32 {
-        return Err(error::violation(mode, reason::INVALID_DETACHED_TREE_JOB));
-    }
-    catalog::validate_owner_id(octets::big_at(key, 1), mode)?;
-    catalog::validate_owner_id(octets::u64_at(value, 0), mode)?;
-    if !is_kind_range(value) {
-        return Err(error::violation(mode, reason::INVALID_DETACHED_TREE_KIND_RANGE));
-    }
-    let tree = volume::ref_at(value, 16);
-    volume::validate_tree_ref(tree, blocks, mode)?;
-    if page_generation < tree.generation {
-        return Err(error::violation(mode, reason::DETACHED_TREE_REFERENCE_IS_NEWER));
-    }
-    Ok(())
-}
-
 // Check an orphan marker.
 #[tactic(auto, unfolding(crate::specs::Cleanup::validate_orphan_marker, error::specs::Demand::outcome))]
 fn validate_orphan_marker(key: &[u8], value: &[u8], mode: Validation) -> Result<(), Error>
@@ -200,6 +251,7 @@ fn validate_orphan_marker(key: &[u8], value: &[u8], mode: Validation) -> Result<
 }
 
 // Check a record of the cleanup tree.
+// Kept: the kind is the byte that is stored, here and in `cleanup_internal_key`: an enum would be made of it by a match like these two.
 #[tactic(auto, unfolding(crate::specs::Cleanup::validate_cleanup_key_value, crate::specs::Cleanup::cleanup_record, error::specs::Demand::outcome))]
 pub fn validate_cleanup_key_value(
     key: &[u8],
@@ -213,9 +265,14 @@ pub fn validate_cleanup_key_value(
     if key.len() != 9 && key.len() != 17 {
         return Err(error::violation(mode, reason::INVALID_CLEANUP_KEY_LENGTH));
     }
+    let context = Context {
+        blocks,
+        page_generation,
+        mode,
+    };
     match octets::byte_at(key, 0) {
-        1 => validate_retirement(key, value, blocks, page_generation, mode),
-        2 => validate_detached_tree(key, value, blocks, page_generation, mode),
+        1 => context.validate_retirement(key, value),
+        2 => context.validate_detached_tree(key, value),
         3 => validate_orphan_marker(key, value, mode),
         _ => Err(error::violation(mode, reason::UNKNOWN_CLEANUP_RECORD_KIND)),
     }
@@ -251,10 +308,12 @@ pub fn validate_workspace_run(
     }
     let first = octets::big_at(key, 0);
     let count = u64::from(octets::u32_at(value, 0));
-    if count == 0 || !volume::sum_fits(first, count - 1) {
-        return Err(error::violation(mode, reason::INVALID_WORKSPACE_RUN_LENGTH));
-    }
-    if !volume::is_nonreserved_block(first + (count - 1), blocks) {
+    let invalid = error::violation(mode, reason::INVALID_WORKSPACE_RUN_LENGTH);
+    let last = count
+        .checked_sub(1)
+        .and_then(|span| first.checked_add(span))
+        .ok_or(invalid)?;
+    if !volume::is_nonreserved_block(last, blocks) {
         return Err(error::violation(mode, reason::WORKSPACE_RUN_LEAVES_THE_VOLUME));
     }
     Ok(())
@@ -277,65 +336,6 @@ fn allocation_internal_key(key: &[u8], blocks: u64, mode: Validation) -> Result<
     )
 }
 
-// Check a retirement's key in an internal page.
-#[tactic(auto, unfolding(crate::specs::Internal::retirement_key, error::specs::Demand::outcome))]
-fn retirement_key(
-    key: &[u8],
-    blocks: u64,
-    page_generation: u64,
-    mode: Validation,
-) -> Result<(), Error>
-    ensures { result ≡ retirement_key (cleanup_number key.now) (cleanup_block key.now) blocks page_generation mode }
-{
-    let generation = octets::big_at(key, 1);
-    if generation == 0 || page_generation < generation {
-        return Err(error::violation(mode, reason::INVALID_RETIREMENT_GENERATION));
-    }
-    if !volume::is_nonreserved_block(octets::big_at(key, 9), blocks) {
-        return Err(error::violation(mode, reason::INVALID_RETIREMENT_BLOCK));
-    }
-    Ok(())
-}
-
-// Check a key of an internal page of the cleanup tree.
-#[tactic(auto, unfolding(crate::specs::Internal::cleanup_internal_key))]
-fn cleanup_internal_key(
-    key: &[u8],
-    blocks: u64,
-    page_generation: u64,
-    mode: Validation,
-) -> Result<(), Error>
-    ensures { result ≡ cleanup_internal_key key.now blocks page_generation mode }
-{
-    match octets::byte_at(key, 0) {
-        1 if key.len() == 17 => retirement_key(key, blocks, page_generation, mode),
-        2 | 3 if key.len() == 9 => catalog::validate_owner_id(octets::big_at(key, 1), mode),
-        _ => Err(error::violation(mode, reason::INVALID_CLEANUP_INTERNAL_KEY)),
-    }
-}
-
-// Check a key of an internal page, by the tree's kind.
-#[tactic(auto, unfolding(crate::specs::Internal::internal_key))]
-fn internal_key(
-    kind: TreeKind,
-    key: &[u8],
-    blocks: u64,
-    page_generation: u64,
-    mode: Validation,
-) -> Result<(), Error>
-    ensures { result ≡ internal_key kind key.now blocks page_generation mode }
-{
-    match kind {
-        TreeKind::Catalog => {
-            catalog::validate_catalog_key(key, mode)?;
-            Ok(())
-        }
-        TreeKind::Allocation => allocation_internal_key(key, blocks, mode),
-        TreeKind::Cleanup => cleanup_internal_key(key, blocks, page_generation, mode),
-        TreeKind::Workspace => validate_workspace_key(key, blocks, mode),
-    }
-}
-
 // Check a record of an internal page; the page that it names.
 #[tactic(auto, unfolding(crate::specs::Internal::validate_internal_record, error::specs::Demand::outcome))]
 pub fn validate_internal_record(
@@ -348,7 +348,12 @@ pub fn validate_internal_record(
 ) -> Result<TreeRef, Error>
     ensures { result ≡ validate_internal_record kind key.now value.now blocks page_generation mode }
 {
-    internal_key(kind, key, blocks, page_generation, mode)?;
+    let context = Context {
+        blocks,
+        page_generation,
+        mode,
+    };
+    context.internal_key(kind, key)?;
     if value.len() != 16 {
         return Err(error::violation(mode, reason::INTERNAL_VALUE_IS_NOT_A_TREE_REFERENCE));
     }
@@ -361,6 +366,7 @@ pub fn validate_internal_record(
 }
 
 // Check a record of the catalog, by its kind; the data blocks that it counts.
+// Kept: the byte that `validate_catalog_key` promises: an enum would be made of it by a match like this one, with the same last arm.
 #[tactic(auto, using(crate::proofs::Answered::kind_is, crate::proofs::Answered::extent_again), unfolding(crate::specs::Inside::catalog_leaf, crate::specs::Leaf::uncounted_record, error::specs::Demand::outcome))]
 fn catalog_leaf(key: &[u8], value: &[u8], blocks: u64, mode: Validation) -> Result<u64, Error>
     ensures { result ≡ catalog_leaf key.now value.now blocks mode }

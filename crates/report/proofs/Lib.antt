@@ -1,4 +1,5 @@
 pub mod Digits
-pub mod Each
+pub mod Spelt
 pub mod Lines
+pub mod Pieces
 pub mod Value

@@ -1,6 +1,5 @@
 -- Numbers and bytes as text.
-use Rattle.std.specs.Prelude.{ℕ, zero, suc, ◌+◌, ◌/◌, ◌%◌, cond, eqb, ltb}
-use mathlib.Core.List.{List, [], ◌∷◌, ◌++◌, flat_map}
+use Rattle.std.specs.Prelude.{ℕ, zero, suc, ◌+◌, ◌/◌, ◌%◌, List, [], ◌∷◌, ◌++◌, flat_map, cond, eqb, ltb}
 
 -- the decimal digits of a number in ASCII, the last so many of them, none in front of the first that isn't 0
 abbrev pub leading : ℕ → ℕ → List ℕ

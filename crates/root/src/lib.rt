@@ -82,6 +82,7 @@ impl Label {
     }
 }
 
+// Kept, here and in `check_identity`: bytes, slot and blocks as `decode` is given them: a struct would be made there and taken apart in two.
 #[tactic(auto, unfolding(crate::specs::Root::check_place, error::specs::Demand::outcome))]
 fn check_place(bytes: &[u8], slot: u64, blocks: u64) -> Result<(), Error>
     ensures { result ≡ check_place bytes.now slot blocks }
@@ -150,7 +151,7 @@ fn check_text(text: &[u8]) -> Result<(), Error>
 fn check_label(bytes: &[u8]) -> Result<(), Error>
     ensures { result ≡ check_label bytes.now }
 {
-    let n = octets::u16_at(bytes, Root::LABEL_LENGTH_OFFSET) as usize;
+    let n = usize::from(octets::u16_at(bytes, Root::LABEL_LENGTH_OFFSET));
     if Label::MAX_BYTES < n {
         return Err(Error::Corrupt(reason::ROOT_LABEL_LENGTH));
     }
@@ -200,10 +201,11 @@ fn check_block(bytes: &[u8], slot: u64, blocks: u64) -> Result<(), Error>
 fn label_text(bytes: &[u8]) -> &[u8]
     ensures { result.now ≡ label_text bytes.now }
 {
-    let n = octets::u16_at(bytes, Root::LABEL_LENGTH_OFFSET) as usize;
+    let n = usize::from(octets::u16_at(bytes, Root::LABEL_LENGTH_OFFSET));
     octets::span(bytes, Root::LABEL_OFFSET, Root::LABEL_OFFSET + n)
 }
 
+// Kept, here and in `root_of`: a fact of two functions; as `&[u8; 4096]` it would be asked for again in `decode`, which is lent a slice.
 #[tactic(auto, using(crate::proofs::Text::uuid_part))]
 fn uuid_at(bytes: &[u8]) -> [u8; 16]
     requires { length bytes.now ≡ 4096 }
@@ -250,6 +252,7 @@ fn root_of(bytes: &[u8]) -> Root
     }
 }
 
+// Kept, here and below: the root, the blocks and the mode by themselves: of a struct with a lent root each clause would say `self.entry.root.now` for `root.now`.
 #[tactic(auto, unfolding(crate::specs::Fields::check_general, error::specs::Demand::outcome))]
 fn check_general(root: &Root, slot: u64, blocks: u64, mode: Validation) -> Result<(), Error>
     ensures { result ≡ check_general root.now slot blocks mode }
@@ -444,9 +447,8 @@ pub fn supported_root(root: Result<Root, Error>) -> Result<Option<Root>, Error>
     ensures { result ≡ supported_root root }
 {
     match root {
-        Ok(root) => Ok(Some(root)),
         Err(Error::Corrupt(_)) => Ok(None),
-        Err(e) => Err(e),
+        _ => Ok(Some(root?)),
     }
 }
 

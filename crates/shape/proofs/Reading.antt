@@ -6,7 +6,8 @@ use lib.ListN.{length, get_or, drop, drop_of_length-le}
 use lib.Seq.{drop-cons}
 use native.Mathlib.Omega.{arith}
 use borrow.Author.Tests.{ne_eqb}
-use Rattle.std.specs.Prelude.{Ok, Err, Some, None, slice_get}
+use Rattle.std.specs.Prelude.{Ok, Err, Option, Some, None, slice_get, option_copied, ok_or}
+use Rattle.std.specs.Borrow.{Bor}
 use Rattle.std.proofs.lemmas.Option.{none-some, same_Some}
 use Rattle.shape.specs.declared.Item.{Item}
 use Rattle.shape.specs.declared.Fault.{Fault}
@@ -47,12 +48,13 @@ unfolding call_front
 first_call [] call e = absurd (none-some call (sym e))
 first_call (x ∷ xs) call e = rw (ne_eqb (length (x ∷ xs)) 0 (λ e. omega arith)) (ap (λ (n : ℕ). known_front (items_in n calls) (x ∷ xs)) (sym (same_Some call x e)))
 
--- a call that takes nothing is unknown
-pub none_known : (items : List Item) (input : List ℕ) → length items < 1 → Err Outside ≡ known_front items input
-none_known [] input l = refl
-none_known (x ∷ xs) input l = absurd (omega (arith, l))
+-- a call without a row is unknown
+pub unknown_call : (got : Option (Bor (List Item))) (input : List ℕ) (call : ℕ) {x : Fault} → Some call ≡ slice_get input 0 → option_copied got ≡ items_in call calls → ok_or got Outside ≡ Err x → Err x ≡ call_front input
+unknown_call (Some r) input call {x} f g h = absurd (let z : ◌≡◌ {A = ℕ} 0 1 = cc in omega arith)
+unknown_call None input call {x} f g h =
+    let same : x ≡ Outside = cc in
+    rw (first_call input call f, sym g, same)
 
--- what another takes is read
-pub some_known : (items : List Item) (input : List ℕ) → 1 ≤ length items → reads items input 1 ≡ known_front items input
-some_known [] input l = absurd (omega (arith, l))
-some_known (x ∷ xs) input l = refl
+-- another is read
+pub known_call : {got : Option (Bor (List Item))} {items : Bor (List Item)} {r : Front} (input : List ℕ) (call : ℕ) → Some call ≡ slice_get input 0 → option_copied got ≡ items_in call calls → got ≡ Some items → r ≡ reads items.now input 1 → r ≡ call_front input
+known_call {got} {items} {r} input call f g h e = rw (first_call input call f, sym g, h, e)

@@ -9,10 +9,11 @@ use lib.ListN.{length}
 use borrow.Author.Tests.{leb-true, eqb-false}
 use Rattle.octets.specs.Bytes.{byte_at}
 use Rattle.octets.specs.Number.{u32_at, u64_at}
-use Rattle.std.specs.Prelude.{Ok, Err}
+use Rattle.std.specs.Prelude.{Ok, Err, Option, Some, None}
 use Rattle.shape.specs.declared.Fault.{Fault}
 use Rattle.shape.specs.declared.Fault.TheVariants.{Short, Outside}
 use Rattle.shape.specs.declared.Item.{Item}
+use Rattle.shape.specs.declared.Item.TheVariants.{Number, Text}
 use Rattle.shape.specs.Call.{Front, in_range, then_read, read_bytes, read_number, read_string, read_item, reads}
 use Rattle.shape.specs.Calls.{items_in, calls, known_front, call_front}
 use Rattle.shape.specs.Within.{CallsWithin}
@@ -56,19 +57,16 @@ here m size end l p = let same = same_end m end p in record { on = omega (arith,
 
 item_within : (i : Item) (input : List ℕ) (at end : ℕ) → read_item i input at ≡ Ok end → Behind at (length input) end
 unfolding read_number read_string
-item_within i input at end = go i.is_string
-  where
-    go : (t : Bool) → cond t (read_string i) (read_number i) input at ≡ Ok end → Behind at (length input) end
-    go true p =
-        step (read_bytes input at 4) (λ start. cond (in_range i (u32_at input at)) (read_bytes input start (u32_at input at)) (Err Outside)) at (length input) end
-        (λ m q. bytes_within input at 4 m q)
-        (λ m l q. bytes_within input m (u32_at input at) end (allowed (in_range i (u32_at input at)) (read_bytes input m (u32_at input at)) end q))
-        p
-    go false p =
-        step (read_bytes input at 8) (λ m. cond (in_range i (u64_at input at)) (Ok m) (Err Outside)) at (length input) end
-        (λ m q. bytes_within input at 8 m q)
-        (λ m l q. here m (length input) end l (allowed (in_range i (u64_at input at)) (Ok m) end q))
-        p
+item_within (Text least most) input at end p =
+    step (read_bytes input at 4) (λ start. cond (in_range least most (u32_at input at)) (read_bytes input start (u32_at input at)) (Err Outside)) at (length input) end
+    (λ m q. bytes_within input at 4 m q)
+    (λ m l q. bytes_within input m (u32_at input at) end (allowed (in_range least most (u32_at input at)) (read_bytes input m (u32_at input at)) end q))
+    p
+item_within (Number least most) input at end p =
+    step (read_bytes input at 8) (λ m. cond (in_range least most (u64_at input at)) (Ok m) (Err Outside)) at (length input) end
+    (λ m q. bytes_within input at 8 m q)
+    (λ m l q. here m (length input) end l (allowed (in_range least most (u64_at input at)) (Ok m) end q))
+    p
 
 reads_within : (items : List Item) (input : List ℕ) (at end : ℕ) → at ≤ length input → reads items input at ≡ Ok end → Behind at (length input) end
 unfolding reads
@@ -76,9 +74,9 @@ reads_within [] input at end l p = here at (length input) end l p
 reads_within (i ∷ items) input at end l p =
     step (read_item i input at) (reads items input) at (length input) end (λ m q. item_within i input at m q) (λ m k q. reads_within items input m end k q) p
 
-known_within : (items : List Item) (input : List ℕ) (end : ℕ) → 1 ≤ length input → known_front items input ≡ Ok end → Behind 1 (length input) end
-known_within [] input end l p = absurd (apart Outside end p)
-known_within (i ∷ items) input end l p = reads_within (i ∷ items) input 1 end l p
+known_within : (items : Option (List Item)) (input : List ℕ) (end : ℕ) → 1 ≤ length input → known_front items input ≡ Ok end → Behind 1 (length input) end
+known_within None input end l p = absurd (apart Outside end p)
+known_within (Some items) input end l p = reads_within items input 1 end l p
 
 pub calls_within : CallsWithin
 unfolding call_front

@@ -1,53 +1,55 @@
 -- The calls of docs/PROBE.md: the numbers and strings that each takes, in their order.
-use Rattle.std.specs.Prelude.{ℕ, ◌+◌, ◌*◌, ◌^◌, ◌-◌, cond, List, [], ◌∷◌, ◌++◌, eqb, length, replicate, Err, count_by, not}
+use Rattle.std.specs.Prelude.{ℕ, ◌+◌, ◌*◌, ◌^◌, ◌-◌, cond, List, [], ◌∷◌, ◌++◌, eqb, length, replicate, Option, Some, None, Err, Bool, true, false, count_by}
+use Rattle.std.specs.Option.{option_map_or}
 use Rattle.octets.specs.Bytes.{byte_at}
 use Rattle.shape.specs.declared.Item.{Item}
+use Rattle.shape.specs.declared.Item.TheVariants.{Number, Text}
 use Rattle.shape.specs.declared.Fault.TheVariants.{Short, Outside}
-use Rattle.shape.specs.Call.{Front, number_from, string_from, reads}
+use Rattle.shape.specs.Call.{Front, reads}
 
 -- any number of 64 bits
 abbrev pub any_number : Item
-any_number = number_from 0 (2 ^ 64 - 1)
+any_number = Number 0 (2 ^ 64 - 1)
 
 -- a register, nanoseconds: below 2^32
 abbrev pub word_number : Item
-word_number = number_from 0 (2 ^ 32 - 1)
+word_number = Number 0 (2 ^ 32 - 1)
 
 -- a reason, a scratch's fill
 abbrev pub short_number : Item
-short_number = number_from 0 65535
+short_number = Number 0 65535
 
 -- a level, a page's kind, a label's length
 abbrev pub byte_number : Item
-byte_number = number_from 0 255
+byte_number = Number 0 255
 
 -- present, has label, a mode
 abbrev pub flag_number : Item
-flag_number = number_from 0 1
+flag_number = Number 0 1
 
 -- a tree kind
 abbrev pub kind_number : Item
-kind_number = number_from 1 4
+kind_number = Number 1 4
 
 -- the count of zero bytes in call 4
 abbrev pub zero_count : Item
-zero_count = number_from 0 1000000
+zero_count = Number 0 1000000
 
 -- the entries of a scratch
 abbrev pub entry_count : Item
-entry_count = number_from 0 4096
+entry_count = Number 0 4096
 
 -- a byte string
 abbrev pub any_string : Item
-any_string = string_from 0 80000
+any_string = Text 0 80000
 
 -- a UUID
 abbrev pub uuid_string : Item
-uuid_string = string_from 16 16
+uuid_string = Text 16 16
 
 -- a label's bytes in call 41
 abbrev pub label_string : Item
-label_string = string_from 255 255
+label_string = Text 255 255
 
 -- a made-up root's numbers: present, has label, label length, and 14 more
 abbrev pub root_numbers : List Item
@@ -63,10 +65,10 @@ infixl 70 ◌takes◌
 abbrev pub ◌takes◌ : ℕ → List Item → Taken
 call takes xs = record { number = call; items = xs }
 
--- what a call takes, by the row of its number; nothing where there is none
-unfoldable pub items_in : ℕ → List Taken → List Item
-items_in call [] = []
-items_in call (row ∷ rows) = cond (eqb call row.number) row.items (items_in call rows)
+-- what a call takes, by the row of its number; None where there is none
+unfoldable pub items_in : ℕ → List Taken → Option (List Item)
+items_in call [] = None
+items_in call (row ∷ rows) = cond (eqb call row.number) (Some row.items) (items_in call rows)
 
 -- the table
 unfoldable pub calls : List Taken
@@ -116,19 +118,24 @@ calls =
     ∷ 43 takes (any_number ∷ any_number ∷ kind_number ∷ any_number ∷ byte_number ∷ any_number ∷ entry_count ∷ uuid_string ∷ any_string ∷ any_string ∷ [])
     ∷ []
 
--- a call that takes nothing is unknown
-abbrev pub known_front : List Item → List ℕ → Front
-known_front [] input = Err Outside
-known_front (i ∷ items) input = reads (i ∷ items) input 1
+-- a call without a row is unknown
+abbrev pub known_front : Option (List Item) → List ℕ → Front
+known_front None input = Err Outside
+known_front (Some items) input = reads items input 1
 
 -- the call at the front of the input, from the byte behind its number on
 unfoldable pub call_front : List ℕ → Front
 call_front input = cond (eqb (length input) 0) (Err Short) (known_front (items_in (byte_at input 0) calls) input)
 
+-- whether it is a number
+abbrev pub is_number : Item → Bool
+is_number (Number least most) = true
+is_number (Text least most) = false
+
 -- how many of them are numbers
 abbrev pub numbers_among : List Item → ℕ
-numbers_among items = count_by (λ i. not i.is_string) items
+numbers_among items = count_by is_number items
 
 -- where a call's strings start: behind its own byte and eight bytes for each number
 unfoldable pub strings_at : ℕ → ℕ
-strings_at call = 1 + 8 * numbers_among (items_in call calls)
+strings_at call = 1 + 8 * option_map_or numbers_among (items_in call calls) 0

@@ -3,6 +3,7 @@ use mathlib.Core.Path.{sym, subst}
 use Prim.Native.Nat.{ℕ, zero, suc, ◌<◌}
 use native.Mathlib.Omega.{arith}
 use borrow.Author.Tests.{lt-leb, ne_eqb}
+use Rattle.std.proofs.lemmas.Slice.{take-put_mid_below}
 use Rattle.std.proofs.Common.{◌≡◌, Option, Result, Ok, Err}
 use Rattle.stream.specs.Stream.{read_of, Came}
 
@@ -14,3 +15,5 @@ came (Ok (suc k)) h = rw (lt-leb _ _ h, ne_eqb (suc k) 0 (λ e. omega arith)) (o
 
 pub came_of : {E : Type 0} (got : Result ℕ E) (size have : ℕ) {r : Result (Option ℕ) E} → have < size → r ≡ read_of size have got → Came size have r
 came_of {E} got size have h e = subst (λ (r : Result (Option ℕ) E). Came size have r) (sym e) (came got h)
+
+pub ruleset behind = (came_of, take-put_mid_below)

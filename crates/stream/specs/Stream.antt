@@ -1,5 +1,5 @@
 -- What is known of reading and writing that can fail. Which bytes come, and whether a call fails, no contract can say.
-use Rattle.std.specs.Prelude.{ℕ, ◌+◌, ◌-◌, ◌/◌, ◌≤◌, ◌<◌, min, ◌≡◌, Bool, true, cond, List, eqb, leb, length, take, Result, Ok, Err, Option, Some, None, ⊤, ◌++◌, ◌∷◌, []}
+use Rattle.std.specs.Prelude.{ℕ, ◌+◌, ◌-◌, ◌/◌, ◌≤◌, ◌<◌, min, ◌≡◌, cond, List, eqb, leb, length, take, Result, Ok, Err, Option, Some, None, ⊤, ◌++◌, ◌∷◌, []}
 use Rattle.std.specs.Io.KnownBytes.{Appends}
 
 -- what the system's answer to a read behind the first `have` of `size` bytes means: no byte is the end of the input, another number is
@@ -33,8 +33,8 @@ abbrev pub Says : Option (List ℕ) → Option (List ℕ) → List ℕ → Type 
 Says old new what = (words : List ℕ) × Appends old new (((what ++ (58 ∷ 32 ∷ [])) ++ words) ++ (10 ∷ []))
 
 -- sending nothing doesn't fail
-abbrev pub Sent : ℕ → Bool → Type 0
-Sent used r = used ≡ 0 → r ≡ true
+abbrev pub Sent : List ℕ → Option Unit → Type 0
+Sent out r = out ≡ [] → r ≡ Some tt
 
 -- the next line starts behind what is used, while that is within the first half of so many bytes; else at the front, or nowhere
 abbrev pub StartsAt : ℕ → ℕ → Option ℕ → Type 0

@@ -25,6 +25,7 @@ fn read_of(got: io::Result<usize>, have: usize, size: usize) -> io::Result<Optio
 
 // Reads once behind the first `have` bytes, and answers how many the buffer has then; None where none came, since the input has ended
 // or there is no room.
+#[tactic(auto, using(crate::proofs::Answers::behind))]
 pub fn read_behind<R: io::Read>(
     input: &mut R,
     buf: &mut [u8],
@@ -74,30 +75,31 @@ pub fn fail<E: io::Write>(errors: &mut E, what: &[u8], why: io::Error) -> io::Re
     errors.write_all(b"\n")
 }
 
-// Writes the first `used` bytes of a buffer to standard output, and answers whether all were taken. Where they weren't, says so on
-// standard error: what failed, as the caller names it, and why. To send nothing can't fail.
-// Kept: true or false is all that there is to answer, since why it failed is said here.
+// Writes bytes to standard output. None where not all were taken, which is said on standard error: what failed, as the caller names it,
+// and why. To send nothing can't fail.
+// Kept: `output`, `errors` and `what` go one by one: a program sends in one place and asks for room in another, and would say
+// `stream::Ends { output: &mut rt.stdout(), errors: &mut rt.stderr(), what: WRITING }.send(lines)` in each.
 pub fn send<O: io::Write, E: io::Write>(
     output: &mut O,
     errors: &mut E,
     out: &[u8],
-    used: usize,
     what: &[u8],
-) -> bool
-    ensures { Sent used result }
+) -> Option<()>
+    ensures { Sent out.now result }
 {
-    if used == 0 {
-        return true;
+    if out.is_empty() {
+        return Some(());
     }
-    let Err(e) = output.write_all(octets::span(out, 0, used)) else {
-        return true;
-    };
-    let _ = fail(errors, what, e);
-    false
+    if let Err(why) = output.write_all(out) {
+        let _ = fail(errors, what, why);
+        return None;
+    }
+    Some(())
 }
 
 // Where the next line starts in a buffer of lines, of which half is kept free, since a line takes less: beyond it what is there is
 // sent. None where that failed.
+// Kept: `out` and `used`, not the bytes that wait: the answer is a place in that buffer, by the buffer's length.
 pub fn room<O: io::Write, E: io::Write>(
     output: &mut O,
     errors: &mut E,
@@ -110,5 +112,6 @@ pub fn room<O: io::Write, E: io::Write>(
     if used <= out.len() / 2 {
         return Some(used);
     }
-    send(output, errors, out, used, what).then_some(0)
+    send(output, errors, octets::span(out, 0, used), what)?;
+    Some(0)
 }

@@ -7,6 +7,7 @@ use mathlib.Core.List.{List, [], ◌∷◌, ◌++◌}
 use native.Mathlib.Omega.{arith}
 use lib.Dec.{leb, eqb}
 use borrow.Author.Tests.{le-leb, lt-leb, leb-true, ne_eqb, eqb-true}
+use Rattle.std.proofs.lemmas.Bool.{or_cases}
 use Rattle.utf8.specs.Rfc3629.{Byte, Tail, Utf8-char, Utf8, number}
 use Rattle.utf8.specs.Rfc3629.Utf8-char.{utf8_1, utf8_2, utf8_3_E0, utf8_3_E1_EC, utf8_3_ED, utf8_3_EE_EF, utf8_4_F0, utf8_4_F1_F3, utf8_4_F4}
 use Rattle.utf8.specs.Rfc3629.Utf8.{none, more}
@@ -79,10 +80,6 @@ complete none = refl
 complete (more {s = s} c r) = utf8_char c s ∙ complete r
 
 -- the tests, taken apart
-either : (x y : Bool) → x || y ≡ true → (x ≡ true) ⊎ (y ≡ true)
-either true y e = inl refl
-either false y e = inr e
-
 byte : (lo hi b : ℕ) → b from lo to hi ≡ true → Byte lo hi b
 byte lo hi b e = let h = (and-eq-true_iff (leb lo b) (leb b hi)).0 e in record { low = leb-true lo b h.0; high = leb-true b hi h.1 }
 
@@ -112,11 +109,11 @@ three_char a b c e =
     (λ e. ⊎_elim
     (λ e. let h = three_at 0xE0 0xA0 0xBF a b c e in subst (λ (k : ℕ). Utf8-char (k ∷ b ∷ c ∷ [])) (sym h.0) (utf8_3_E0 h.1 h.2))
     (λ e. let h = three_in 0xE1 0xEC a b c e in utf8_3_E1_EC h.0 h.1 h.2)
-    (either _ _ e))
+    (or_cases _ _ e))
     (λ e. let h = three_at 0xED 0x80 0x9F a b c e in subst (λ (k : ℕ). Utf8-char (k ∷ b ∷ c ∷ [])) (sym h.0) (utf8_3_ED h.1 h.2))
-    (either _ _ e))
+    (or_cases _ _ e))
     (λ e. let h = three_in 0xEE 0xEF a b c e in utf8_3_EE_EF h.0 h.1 h.2)
-    (either _ _ e)
+    (or_cases _ _ e)
 
 pub four_char : (a b c d : ℕ) → four a b c d ≡ true → Utf8-char (a ∷ b ∷ c ∷ d ∷ [])
 four_char a b c d e =
@@ -124,9 +121,9 @@ four_char a b c d e =
     (λ e. ⊎_elim
     (λ e. let g = (and-eq-true_iff _ (tail d)).0 e in let h = three_at 0xF0 0x90 0xBF a b c g.0 in subst (λ (k : ℕ). Utf8-char (k ∷ b ∷ c ∷ d ∷ [])) (sym h.0) (utf8_4_F0 h.1 h.2 (byte _ _ d g.1)))
     (λ e. let g = (and-eq-true_iff _ (tail d)).0 e in let h = three_in 0xF1 0xF3 a b c g.0 in utf8_4_F1_F3 h.0 h.1 h.2 (byte _ _ d g.1))
-    (either _ _ e))
+    (or_cases _ _ e))
     (λ e. let g = (and-eq-true_iff _ (tail d)).0 e in let h = three_at 0xF4 0x80 0x8F a b c g.0 in subst (λ (k : ℕ). Utf8-char (k ∷ b ∷ c ∷ d ∷ [])) (sym h.0) (utf8_4_F4 h.1 h.2 (byte _ _ d g.1)))
-    (either _ _ e)
+    (or_cases _ _ e)
 
 -- a reading that comes to the end, by the way it went
 ways : {P : Type 0} (t : Bool) (x y : Reading) → (t ≡ true → ends x ≡ true → P) → (ends y ≡ true → P) → ends (cond t x y) ≡ true → P

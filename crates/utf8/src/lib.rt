@@ -2,7 +2,7 @@
 #![tactic(auto)]
 
 ghost use Rattle.std.specs.Prelude.{◌≡◌, ℕ, take, Some};
-ghost use Rattle.utf8.specs.Reading.{tail, one, two, three, four, utf8};
+ghost use Rattle.utf8.specs.Reading.{◌from◌to◌, tail, one, two, three, four, utf8};
 ghost use Rattle.utf8.specs.Inside.{char_len};
 ghost use Rattle.utf8.specs.Rfc3629.{number};
 ghost use Rattle.utf8.specs.Plain.{allowed, plain};
@@ -14,42 +14,44 @@ fn is_one(a: u8) -> bool
     a <= 0x7F
 }
 
+// Whether a byte is one of those from `lo` to `hi`.
+fn is_from(b: u8, lo: u8, hi: u8) -> bool
+    ensures { result ≡ (b from lo to hi) }
+{
+    (lo..=hi).contains(&b)
+}
+
 // Whether a byte is one that follows another in a character: UTF8-tail.
 fn is_tail(b: u8) -> bool
     ensures { result ≡ tail b }
 {
-    (0x80..=0xBF).contains(&b)
+    is_from(b, 0x80, 0xBF)
 }
 
 // Whether two bytes are one: UTF8-2.
 fn is_two(a: u8, b: u8) -> bool
     ensures { result ≡ two a b }
 {
-    (0xC2..=0xDF).contains(&a) && is_tail(b)
+    is_from(a, 0xC2, 0xDF) && is_tail(b)
 }
 
 // Whether three bytes are one: UTF8-3.
 fn is_three(a: u8, b: u8, c: u8) -> bool
     ensures { result ≡ three a b c }
 {
-    let tail_b = is_tail(b);
-    let tail_c = is_tail(c);
-    (a == 0xE0) & ((0xA0 <= b) & (b <= 0xBF)) & tail_c
-        | ((0xE1 <= a) & (a <= 0xEC)) & tail_b & tail_c
-        | (a == 0xED) & ((0x80 <= b) & (b <= 0x9F)) & tail_c
-        | ((0xEE <= a) & (a <= 0xEF)) & tail_b & tail_c
+    a == 0xE0 && is_from(b, 0xA0, 0xBF) && is_tail(c)
+        || is_from(a, 0xE1, 0xEC) && is_tail(b) && is_tail(c)
+        || a == 0xED && is_from(b, 0x80, 0x9F) && is_tail(c)
+        || is_from(a, 0xEE, 0xEF) && is_tail(b) && is_tail(c)
 }
 
 // Whether four bytes are one: UTF8-4.
 fn is_four(a: u8, b: u8, c: u8, d: u8) -> bool
     ensures { result ≡ four a b c d }
 {
-    let tail_b = is_tail(b);
-    let tail_c = is_tail(c);
-    let tail_d = is_tail(d);
-    (a == 0xF0) & ((0x90 <= b) & (b <= 0xBF)) & tail_c & tail_d
-        | ((0xF1 <= a) & (a <= 0xF3)) & tail_b & tail_c & tail_d
-        | (a == 0xF4) & ((0x80 <= b) & (b <= 0x8F)) & tail_c & tail_d
+    a == 0xF0 && is_from(b, 0x90, 0xBF) && is_tail(c) && is_tail(d)
+        || is_from(a, 0xF1, 0xF3) && is_tail(b) && is_tail(c) && is_tail(d)
+        || a == 0xF4 && is_from(b, 0x80, 0x8F) && is_tail(c) && is_tail(d)
 }
 
 // How many bytes the character at the front has; none where none starts there.
@@ -79,7 +81,7 @@ fn behind_ascii(bytes: &[u8]) -> &[u8]
     rest
 }
 
-// Kept: not the library's `str::from_utf8`, since document 01 names RFC 3629, whose grammar is the definition here.
+// Kept: not the library's `str::from_utf8`: the customer's second request has the rows that RFC 3629 prints ticked one by one in this code.
 // Whether the bytes are UTF-8.
 pub fn is_utf8(bytes: &[u8]) -> bool
     ensures { result ≡ utf8 bytes.now }

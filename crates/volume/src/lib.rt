@@ -36,7 +36,7 @@ pub enum TreeKind {
 }
 
 // Two ranges of blocks, each from its start up to but not including its end.
-// Kept: numbers, not the library's ranges, which can't be copied; document 01 has them by value.
+// Kept: four numbers, as document 01 gives them; the library's Range isn't Copy, and this type is.
 #[derive(Clone, Copy, Debug, PartialEq, Eq)]
 pub struct GroupBlocks {
     pub low_start: u64,
@@ -45,6 +45,7 @@ pub struct GroupBlocks {
     pub high_end: u64,
 }
 
+// Kept: the paper's number by a name, where `kind as u8` would stand in callers.
 pub fn tree_kind_value(kind: TreeKind) -> u8
     ensures { result ≡ tree_kind_value kind }
 {
@@ -52,7 +53,7 @@ pub fn tree_kind_value(kind: TreeKind) -> u8
 }
 
 // The tree kind of a number that was tested to be one.
-// Kept: no `TryFrom`: every number has an answer here, and none is refused.
+// Kept: no `TryFrom`: this function promises an answer of every number, 4's for one above it, and may refuse none.
 #[tactic(auto, unfolding(crate::specs::References::tree_kind_of))]
 pub fn tree_kind_of(value: u64) -> TreeKind
     ensures { result ≡ tree_kind_of value }
@@ -133,6 +134,7 @@ pub fn validate_blocks(blocks: u64, mode: Validation) -> Result<(), Error>
 }
 
 // A reference to a page whose block lies where pages of its tree do, or not: then, and where it names no generation, a violation with the reason.
+// Kept: reference, blocks and mode: the public functions take the three by themselves; a struct made in each of them would be taken apart here.
 #[tactic(auto, unfolding(error::specs::Demand::outcome))]
 fn validate_ref(
     reference: TreeRef,

@@ -105,31 +105,24 @@ module _ (leaf : Bool) (mode : Validation) (own : Own) (rest : List ℕ) (left :
   walk_by m j c e p =
       rw e (outcome_by (record_demands leaf mode own rest left previous total seen) (rest_walk j) ∙ ap (λ (d : Check). by d (rest_walk j)) p)
 
--- ---- the loop: i records are done, the next stands at a position, and the key before it from start to end
-pub record Going (leaf : Bool) (mode : Validation) (own : Own) (rest : List ℕ) (payload_length count total : ℕ) (seen : List ℕ) (position start end i : ℕ) : Type 0 where
+-- ---- the loop: i records are done, the next stands at a position, and `previous` is the key before it
+pub record Going (leaf : Bool) (mode : Validation) (own : Own) (rest : List ℕ) (payload_length count total : ℕ) (seen : List ℕ) (position : ℕ) (previous : List ℕ) (i : ℕ) : Type 0 where
   pub turns : i ≤ count
   pub inside : position ≤ payload_length
-  pub key_order : start ≤ end
-  pub key_inside : end ≤ position
-  pub same : walk leaf mode own (count - i) (drop position rest) (payload_length - position) (take (end - start) (drop start rest)) total seen ≡ walk leaf mode own count rest payload_length [] 0 []
+  pub same : walk leaf mode own (count - i) (drop position rest) (payload_length - position) previous total seen ≡ walk leaf mode own count rest payload_length [] 0 []
 
-pub going_start : (leaf : Bool) (mode : Validation) (own : Own) (rest : List ℕ) (payload_length count : ℕ) → Going leaf mode own rest payload_length count 0 [] 0 0 0 0
+pub going_start : (leaf : Bool) (mode : Validation) (own : Own) (rest : List ℕ) (payload_length count : ℕ) → Going leaf mode own rest payload_length count 0 [] 0 [] 0
 going_start leaf mode own rest payload_length count = record {
   turns = omega arith;
   inside = omega arith;
-  key_order = omega arith;
-  key_inside = omega arith;
   same = rw (sub-zero count, sub-zero payload_length);
 }
 
-module _ (leaf : Bool) (mode : Validation) (own : Own) (rest : List ℕ) (payload_length count total : ℕ) (seen : List ℕ) (position start end i : ℕ)
-    (g : Going leaf mode own rest payload_length count total seen position start end i) where
-  -- the record at the position, and the key before it
+module _ (leaf : Bool) (mode : Validation) (own : Own) (rest : List ℕ) (payload_length count total : ℕ) (seen : List ℕ) (position : ℕ) (previous : List ℕ) (i : ℕ)
+    (g : Going leaf mode own rest payload_length count total seen position previous i) where
+  -- the record at the position
   abbrev here : List ℕ
   here = drop position rest
-
-  abbrev previous : List ℕ
-  previous = take (end - start) (drop start rest)
 
   abbrev pub turn : Result Turn Error
   turn = turn_of mode own here (payload_length - position) previous
@@ -166,12 +159,10 @@ module _ (leaf : Bool) (mode : Validation) (own : Own) (rest : List ℕ) (payloa
           let s : key_len here ≡ position + 4 + t.key_len - (position + 4) = omega (arith, at_turn.key_is) in
           ap₂ (λ (m : ℕ) (l : List ℕ). take m l) s (drop-drop 4 position rest)
 
-      pub going_on : Going leaf mode own rest payload_length count (next_total leaf total (number_of (own_answer own here))) (next_blocks leaf seen (number_of (own_answer own here))) (position + 4 + t.key_len + t.value_len) (position + 4) (position + 4 + t.key_len) (i + 1)
+      pub going_on : Going leaf mode own rest payload_length count (next_total leaf total (number_of (own_answer own here))) (next_blocks leaf seen (number_of (own_answer own here))) (position + 4 + t.key_len + t.value_len) (take (position + 4 + t.key_len - (position + 4)) (drop (position + 4) rest)) (i + 1)
       going_on = record {
         turns = omega arith;
         inside = turn_size;
-        key_order = omega arith;
-        key_inside = omega arith;
         same =
             rw (← next_rest, ← next_left, ← next_key)
             (sym (walk_by leaf mode own here (payload_length - position) previous total seen (count - i) (count - (i + 1)) (Ok tt) left_is at_turn.passed) ∙ g.same);

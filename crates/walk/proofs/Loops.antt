@@ -22,13 +22,13 @@ use Rattle.walk.proofs.Children.{lengths_at, offset_more, stored_suc, kept_start
 use Rattle.walk.proofs.Going.{Turned, Going, going_start, turn, at_turn, turn_size, own_passed, going_on, going_refused, going_unjoined}
 
 -- the loop, and in an internal page the array of blocks seen so far
-pub record Walking (c : RecordValidation) (rest : List ℕ) (payload_length count total : ℕ) (seen : List ℕ) (position start end i : ℕ) : Type 0 where
-  pub going : Going (is_leaf c) c.mode (own_rules c) rest payload_length count total (blocks_of (is_leaf c) rest i) position start end i
+pub record Walking (c : RecordValidation) (rest : List ℕ) (payload_length count total : ℕ) (seen : List ℕ) (position : ℕ) (previous : List ℕ) (i : ℕ) : Type 0 where
+  pub going : Going (is_leaf c) c.mode (own_rules c) rest payload_length count total (blocks_of (is_leaf c) rest i) position previous i
   pub kept : is_leaf c ≡ false → Kept seen rest i
   pub room : length seen ≡ 192
   pub place : position ≡ offset_of rest i
 
-pub walking_start : (c : RecordValidation) (rest : List ℕ) (payload_length count : ℕ) (seen : List ℕ) → length seen ≡ 192 → Walking c rest payload_length count 0 seen 0 0 0 0
+pub walking_start : (c : RecordValidation) (rest : List ℕ) (payload_length count : ℕ) (seen : List ℕ) → length seen ≡ 192 → Walking c rest payload_length count 0 seen 0 [] 0
 unfolding stored_blocks offset_of
 walking_start c rest payload_length count seen e = record {
   going = start (is_leaf c);
@@ -37,28 +37,28 @@ walking_start c rest payload_length count seen e = record {
   place = refl;
 }
   where
-    start : (leaf : Bool) → Going leaf c.mode (own_rules c) rest payload_length count 0 (blocks_of leaf rest 0) 0 0 0 0
+    start : (leaf : Bool) → Going leaf c.mode (own_rules c) rest payload_length count 0 (blocks_of leaf rest 0) 0 [] 0
     start true = going_start true c.mode (own_rules c) rest payload_length count
     start false = going_start false c.mode (own_rules c) rest payload_length count
 
-module _ (c : RecordValidation) (rest : List ℕ) (payload_length count total : ℕ) (seen : List ℕ) (position start end i : ℕ) (g : Walking c rest payload_length count total seen position start end i) (more : i < count)
-    (r : Result Turn Error) (told : r ≡ turn_of c.mode (own_rules c) (take (length rest - position) (drop position rest)) (payload_length - position) (take (end - start) (drop start rest))) where
-  told_here : r ≡ turn (is_leaf c) c.mode (own_rules c) rest payload_length count total (blocks_of (is_leaf c) rest i) position start end i g.going
-  told_here = told ∙ ap (λ (s : List ℕ). turn_of c.mode (own_rules c) s (payload_length - position) (take (end - start) (drop start rest))) (part_from rest position)
+module _ (c : RecordValidation) (rest : List ℕ) (payload_length count total : ℕ) (seen : List ℕ) (position : ℕ) (previous : List ℕ) (i : ℕ) (g : Walking c rest payload_length count total seen position previous i) (more : i < count)
+    (r : Result Turn Error) (told : r ≡ turn_of c.mode (own_rules c) (take (length rest - position) (drop position rest)) (payload_length - position) previous) where
+  told_here : r ≡ turn (is_leaf c) c.mode (own_rules c) rest payload_length count total (blocks_of (is_leaf c) rest i) position previous i g.going
+  told_here = told ∙ ap (λ (s : List ℕ). turn_of c.mode (own_rules c) s (payload_length - position) previous) (part_from rest position)
 
   pub walk_refused : (x : Error) → r ≡ Err x → Err x ≡ walk (is_leaf c) c.mode (own_rules c) count rest payload_length [] 0 []
-  walk_refused x e = going_refused (is_leaf c) c.mode (own_rules c) rest payload_length count total (blocks_of (is_leaf c) rest i) position start end i g.going more x (sym told_here ∙ e)
+  walk_refused x e = going_refused (is_leaf c) c.mode (own_rules c) rest payload_length count total (blocks_of (is_leaf c) rest i) position previous i g.going more x (sym told_here ∙ e)
 
   module _ (t : Turn) (e : r ≡ Ok t) (q : Number) (joined : q ≡ join_of (is_leaf c) total (blocks_of (is_leaf c) rest i) t.number c.mode) where
     pub walk_unjoined : (x : Error) → q ≡ Err x → Err x ≡ walk (is_leaf c) c.mode (own_rules c) count rest payload_length [] 0 []
-    walk_unjoined x f = going_unjoined (is_leaf c) c.mode (own_rules c) rest payload_length count total (blocks_of (is_leaf c) rest i) position start end i g.going more t x (sym told_here ∙ e) (sym joined ∙ f)
+    walk_unjoined x f = going_unjoined (is_leaf c) c.mode (own_rules c) rest payload_length count total (blocks_of (is_leaf c) rest i) position previous i g.going more t x (sym told_here ∙ e) (sym joined ∙ f)
 
     module _ (after : ℕ) (f : q ≡ Ok after) where
-      d : Turned (is_leaf c) c.mode (own_rules c) (drop position rest) (payload_length - position) (take (end - start) (drop start rest)) total (blocks_of (is_leaf c) rest i) t after
-      d = at_turn (is_leaf c) c.mode (own_rules c) rest payload_length count total (blocks_of (is_leaf c) rest i) position start end i g.going more t after (sym told_here ∙ e) (sym joined ∙ f)
+      d : Turned (is_leaf c) c.mode (own_rules c) (drop position rest) (payload_length - position) previous total (blocks_of (is_leaf c) rest i) t after
+      d = at_turn (is_leaf c) c.mode (own_rules c) rest payload_length count total (blocks_of (is_leaf c) rest i) position previous i g.going more t after (sym told_here ∙ e) (sym joined ∙ f)
 
       pub walk_size : position + 4 + t.key_len + t.value_len ≤ payload_length
-      walk_size = turn_size (is_leaf c) c.mode (own_rules c) rest payload_length count total (blocks_of (is_leaf c) rest i) position start end i g.going more t after (sym told_here ∙ e) (sym joined ∙ f)
+      walk_size = turn_size (is_leaf c) c.mode (own_rules c) rest payload_length count total (blocks_of (is_leaf c) rest i) position previous i g.going more t after (sym told_here ∙ e) (sym joined ∙ f)
 
       module _ (inside : payload_length ≤ length rest) where
         whole : is_record (split_record (drop position rest)) ≡ true
@@ -74,7 +74,7 @@ module _ (c : RecordValidation) (rest : List ℕ) (payload_length count total : 
         block_is p =
             let o : own_rules c ≡ child_rules c = ap (λ (b : Bool). cond b (leaf_rules c) (child_rules c)) p in
             let h : number_check (own_answer (own_rules c) (drop position rest)) ≡ Ok tt =
-            own_passed (is_leaf c) c.mode (own_rules c) (drop position rest) (payload_length - position) (take (end - start) (drop start rest)) total (blocks_of (is_leaf c) rest i) d.passed in
+            own_passed (is_leaf c) c.mode (own_rules c) (drop position rest) (payload_length - position) previous total (blocks_of (is_leaf c) rest i) d.passed in
             d.number_is ∙ ap (λ (w : Own). number_of (own_answer w (drop position rest))) o ∙ own_block c (drop position rest) (sym (ap (λ (w : Own). number_check (own_answer w (drop position rest))) o) ∙ h)
 
         blocks_on : (leaf : Bool) → is_leaf c ≡ leaf → blocks_of leaf rest (i + 1) ≡ next_blocks leaf (blocks_of leaf rest i) t.number
@@ -82,11 +82,11 @@ module _ (c : RecordValidation) (rest : List ℕ) (payload_length count total : 
         blocks_on false p =
             ap (stored_blocks rest) (add-one i) ∙ stored_suc rest i ∙ ap (λ (b : ℕ). stored_blocks rest i ++ (b ∷ [])) (ap (λ (p : ℕ). stored_block (drop p rest)) (sym g.place) ∙ sym (block_is p))
 
-        pub walk_on : Walking c rest payload_length count after (set seen (i % 192) t.number) (position + 4 + t.key_len + t.value_len) (position + 4) (position + 4 + t.key_len) (i + 1)
+        pub walk_on : Walking c rest payload_length count after (set seen (i % 192) t.number) (position + 4 + t.key_len + t.value_len) (take (position + 4 + t.key_len - (position + 4)) (drop (position + 4) rest)) (i + 1)
         walk_on = record {
           going =
               rw (blocks_on (is_leaf c) refl, d.total_is, d.number_is)
-              (going_on (is_leaf c) c.mode (own_rules c) rest payload_length count total (blocks_of (is_leaf c) rest i) position start end i g.going more t after (sym told_here ∙ e) (sym joined ∙ f));
+              (going_on (is_leaf c) c.mode (own_rules c) rest payload_length count total (blocks_of (is_leaf c) rest i) position previous i g.going more t after (sym told_here ∙ e) (sym joined ∙ f));
           kept = λ p. kept_more seen rest i t.number (g.kept p) (rw (← g.place) whole) (block_is p ∙ ap (λ (p : ℕ). stored_block (drop p rest)) g.place);
           room = length-set seen (i % 192) t.number ∙ g.room;
           place = place_on;

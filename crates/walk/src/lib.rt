@@ -1,4 +1,5 @@
-// The walk over a page's records. `rest` is the block from byte 80 to its end: a record's two lengths are read even where they lie behind the payload's end. Document 01, section 5.
+// The walk over a page's records.
+// Kept: `rest` with `left` or `payload_length`: `rest` is the block from byte 80 to its end, not the payload: a record's two lengths are read even where they lie behind the payload's end. Document 01, section 5.
 #![tactic(auto)]
 
 ghost use Rattle.std.specs.Prelude.{◌≡◌, false, ◌||◌, eqb, [], ◌≤◌, length, take};
@@ -11,7 +12,7 @@ use lookup::Lengths;
 use volume::TreeKind;
 
 // What the records of a page are checked by.
-// Kept: `page_kind` is the byte that is stored, as in the Rust: a page of any kind but 1 is walked as an internal one.
+// Kept: `page_kind` is the byte that is stored: a caller may lend a page of kind 7, say, and as in the Rust it is walked as an internal one; an enum of leaf and internal couldn't hold it.
 #[derive(Clone, Copy)]
 pub struct RecordValidation {
     pub kind: TreeKind,
@@ -46,8 +47,8 @@ fn record_form(
     if rest.len() < 4 {
         return Err(Error::Corrupt(reason::RECORD_VALUE_LENGTH));
     }
-    let key_len = octets::u16_at(rest, 0) as usize;
-    let value_len = octets::u16_at(rest, 2) as usize;
+    let key_len = usize::from(octets::u16_at(rest, 0));
+    let value_len = usize::from(octets::u16_at(rest, 2));
     if !(1..=1024).contains(&key_len) {
         return Err(error::violation(mode, reason::INVALID_RECORD_KEY_LENGTH));
     }
@@ -113,6 +114,7 @@ fn seen_before(seen: &[u64], block: u64) -> bool
 }
 
 // The same of the first n records themselves: only a payload above the page's has more children than the array holds.
+// Kept: a place that goes on by each record's own length: as an iterator it is `scan`, whose closure holds these same four lines.
 fn stored_before(rest: &[u8], n: usize, block: u64) -> bool
     requires { Whole rest.now n }
     ensures { result ≡ is_one_of block (stored_blocks rest.now n) }
@@ -120,8 +122,8 @@ fn stored_before(rest: &[u8], n: usize, block: u64) -> bool
     let mut hit = false;
     let mut position = 0;
     for i in 0..n {
-        let value = position + 4 + octets::u16_at(rest, position) as usize;
-        let end = value + octets::u16_at(rest, position + 2) as usize;
+        let value = position + 4 + usize::from(octets::u16_at(rest, position));
+        let end = value + usize::from(octets::u16_at(rest, position + 2));
         hit |= octets::u64_at(rest, value) == block;
         position = end;
     }
@@ -154,10 +156,8 @@ fn join(
 {
     let mode = context.mode;
     if context.page_kind == 1 {
-        if !volume::sum_fits(total, number) {
-            return Err(error::violation(mode, reason::LEAF_DATA_BLOCK_TOTAL_OVERFLOW));
-        }
-        return Ok(total + number);
+        let overflow = error::violation(mode, reason::LEAF_DATA_BLOCK_TOTAL_OVERFLOW);
+        return total.checked_add(number).ok_or(overflow);
     }
     if is_shared(seen, all, n, number) {
         return Err(error::violation(mode, reason::INTERNAL_CHILDREN_SHARE_A_BLOCK));
@@ -167,7 +167,7 @@ fn join(
 
 // The walk over the records, and a leaf's total. The children's blocks so far stand in `seen`: of a page's payload, whose children take 28
 // bytes or more, it has room for all.
-// Kept: an array and a count beside it: fixed memory, nothing allocates.
+// Kept: an array and a count beside it: fixed memory, nothing allocates. The loop's index is that count, and a record's place in the array.
 fn walk(
     rest: &[u8],
     payload_length: usize,
@@ -180,11 +180,9 @@ fn walk(
     let mut total: u64 = 0;
     let mut seen = [0u64; 192];
     let mut position = 0;
-    let mut key_start = 0;
-    let mut key_end = 0;
+    let mut previous: &[u8] = &[];
     for i in 0..count {
         let here = &rest[position..];
-        let previous = &rest[key_start..key_end];
         let Turn {
             key_len,
             value_len,
@@ -192,9 +190,10 @@ fn walk(
         } = check_record(here, payload_length - position, previous, context)?;
         total = join(total, &seen, rest, i, number, context)?;
         seen[i % 192] = number;
-        key_start = position + 4;
-        key_end = key_start + key_len;
+        let key_start = position + 4;
+        let key_end = key_start + key_len;
         position = key_end + value_len;
+        previous = &rest[key_start..key_end];
     }
     if position != payload_length {
         return Err(error::violation(context.mode, reason::PAYLOAD_HAS_UNCONSUMED_BYTES));

@@ -1,24 +1,11 @@
 -- `crc::entry` meets its contract: a mask of eight bits is a remainder, which keeps the index within the table of k.
 use mathlib.Core.Path.{ap, ◌∙◌}
 use Prim.Native.Nat.{◌+◌, ◌*◌}
-use native.Mathlib.Omega.{arith}
 use lib.Bits.{bit_and, and_mask, mask_lt}
 use Rattle.crc.specs.Crc.{step_bits}
 use Rattle.crc.specs.Tables.{IsTables}
 use Rattle.crc.proofs.Linear.{extend_entry}
 use Rattle.crc.proofs.entry.Goals as goal
-
-pub overflow_cast-result : goal.overflow_cast-result
-overflow_cast-result c = omega (arith, mask_lt c.args.x 8)
-
-pub overflow_add-result : goal.overflow_add-result
-overflow_add-result c = omega (arith, mask_lt c.args.x 8)
-
-pub offset_bounds-tables-k : goal.offset_bounds-tables-k
-offset_bounds-tables-k c = omega (arith, mask_lt c.args.x 8)
-
-pub bounds-tables-k : goal.bounds-tables-k
-bounds-tables-k c = omega (arith, mask_lt c.args.x 8)
 
 pub returns : goal.returns
 unfolding IsTables

@@ -1,12 +1,9 @@
 use mathlib.Core.Path.{◌≡◌}
 use mathlib.Core.Bool.{true}
-use Prim.Native.Nat.{◌+◌, ◌*◌}
+use Prim.Native.Nat.{◌*◌}
 use Rattle.octets.specs.Below.{every}
 use Rattle.group.specs.Group.{hole_zero}
 use Rattle.group.proofs.first_holes_zero.Given as goal
 
 abbrev pub invariant-loop-k : goal.invariant-loop-k
 invariant-loop-k l = every (hole_zero l.group) (8 * l.k) ≡ true
-
-abbrev pub invariant-loop-j : goal.invariant-loop-j
-invariant-loop-j l = every (hole_zero l.group) (8 * l.whole + l.j) ≡ true

@@ -1,6 +1,4 @@
 use native.Mathlib.Omega.{arith}
-use lib.Count.{leading_le}
-use lib.ListN.{get_or}
 use Rattle.group.proofs.Bitmap.{none_stored, last_in, last_stored, stored_le}
 use Rattle.group.proofs.stored_slots.Goals as goal
 
@@ -15,12 +13,6 @@ overflow_add-result c = omega (arith, last_in c.args.group.now c.requires _ c.in
 
 pub bounds-group-index : goal.bounds-group-index
 bounds-group-index c = omega (arith, last_in c.args.group.now c.requires _ c.in-Some.ensures.0)
-
-pub overflow_cast-result : goal.overflow_cast-result
-overflow_cast-result c = omega (arith, leading_le 8 (get_or c.args.group.now c.in-Some.index 0))
-
-pub overflow_sub-result : goal.overflow_sub-result
-overflow_sub-result c = omega (arith, leading_le 8 (get_or c.args.group.now c.in-Some.index 0))
 
 pub returns : goal.returns
 returns c =

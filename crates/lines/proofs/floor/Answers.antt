@@ -1,9 +1,11 @@
-use borrow.Author.Tests.{le-leb, lt-leb}
-use Rattle.lines.proofs.Pieces.{laid_nothing, less_none, take_same}
+use Rattle.std.proofs.Common.{rules, ◌≡◌, ◌≤◌}
+use Rattle.lines.proofs.Pieces.{front_lent, within_short}
+use borrow.Author.Tests.{le-leb}
+use Rattle.calls.specs.Told.{at_most}
 use Rattle.lines.proofs.floor.Goals as goal
 
-pub returns-then-length-gt4096 : goal.returns-then-length-gt4096
-returns-then-length-gt4096 c = rw (lt-leb _ _ c.if-length-gt4096.true) laid_nothing
-
 pub returns : goal.returns
-returns c = let l = c.if-length-gt4096.false in rw (le-leb _ _ l, ← take_same _ 4096 _ l, ← c.short-scratch.ensures) (rw less_none at c.floor_over.ensures)
+returns c =
+    let l : c.args.n.b ≤ 4096 = search rules in
+    let e : c.within-scratch.result ≡ at_most 65535 c.args.n.c = within_short c.within-scratch.ensures in
+    rw (le-leb _ _ l, ← e, ← front_lent 4096 c.args.n.b c.within-scratch.result c.in-Some.lent c.get_mut.ensures.lookup c.in-Some.is) c.floor_over.ensures

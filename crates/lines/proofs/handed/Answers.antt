@@ -1,9 +1,9 @@
-use borrow.Author.Tests.{le-leb, lt-leb}
-use Rattle.lines.proofs.Pieces.{laid_nothing, less_none, take_same}
+use Rattle.std.proofs.Common.{rules, ◌≤◌}
+use Rattle.lines.proofs.Pieces.{front_lent}
+use borrow.Author.Tests.{le-leb}
 use Rattle.lines.proofs.handed.Goals as goal
 
-pub returns-then-length-gt4096 : goal.returns-then-length-gt4096
-returns-then-length-gt4096 c = rw (lt-leb _ _ c.if-length-gt4096.true) laid_nothing
-
 pub returns : goal.returns
-returns c = let l = c.if-length-gt4096.false in rw (le-leb _ _ l, ← take_same _ 4096 _ l) (rw less_none at c.handed_over.ensures)
+returns c =
+    let l : c.args.n.g ≤ 4096 = search rules in
+    rw (le-leb _ _ l, ← front_lent 4096 c.args.n.g 65535 c.in-Some.lent c.get_mut.ensures.lookup c.in-Some.is) c.handed_over.ensures

@@ -24,9 +24,6 @@ stopped : (c : In_default) → look_at (drop c.loop-index.position c.args.part.n
 stopped c =
     ap (λ s. look_at s c.args.key.now) (sym (part_from c.args.part.now c.loop-index.position)) ∙ sym c.look_at.ensures ∙ c.in_default.is
 
-pub loop-index-init : goal.loop-index-init
-loop-index-init c = rw sub-zero (omega arith, refl)
-
 pub overflow_add-position : goal.overflow_add-position
 overflow_add-position c = omega (arith, fits c)
 

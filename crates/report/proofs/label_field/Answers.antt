@@ -1,8 +1,8 @@
 use Rattle.report.proofs.Lines.{no_label, a_label}
 use Rattle.report.proofs.label_field.Goals as goal
 
-pub returns-then-label-eq0 : goal.returns-then-label-eq0
-returns-then-label-eq0 c = search no_label
+pub returns-then-is_empty : goal.returns-then-is_empty
+returns-then-is_empty c = no_label _ c.put.ensures c.if-is_empty.ensures
 
 pub returns : goal.returns
-returns c = search a_label
+returns c = a_label c.put_byte-behind.ensures c.put-2.ensures c.if-is_empty.ensures

@@ -41,11 +41,6 @@ pub loop-i-preserved : goal.loop-i-preserved
 loop-i-preserved c =
     let s = c.args.rest.now in
     let w = whole c.args.rest.now c.args.n c.loop-i.i c.loop-i.position c.loop-i.invariant.0 c.requires c.loop-i-test.true in (
-      rw (c.u16_at.ensures, c.u16_at-in-loop-i.ensures) (offset_more s c.loop-i.i c.loop-i.position c.loop-i.invariant.0 w),
-      rw (c.u64_at.ensures, c.u16_at.ensures) (stored_more s c.loop-i.i c.loop-i.position c.loop-i.invariant.0 c.args.block c.loop-i.hit w c.loop-i.invariant.1),
+      rw (c.from.ensures, c.u16_at.ensures, c.from-in-loop-i.ensures, c.u16_at-in-loop-i.ensures) (offset_more s c.loop-i.i c.loop-i.position c.loop-i.invariant.0 w),
+      rw (c.u64_at.ensures, c.from.ensures, c.u16_at.ensures) (stored_more s c.loop-i.i c.loop-i.position c.loop-i.invariant.0 c.args.block c.loop-i.hit w c.loop-i.invariant.1),
     )
-
-pub returns : goal.returns
-returns c =
-    let e : c.loop-i.i ≡ c.args.n = omega arith in
-    c.loop-i.invariant.1 ∙ ap (λ m. is_one_of c.args.block (stored_blocks c.args.rest.now m)) e

@@ -3,4 +3,4 @@ use Rattle.walk.proofs.walk.Given as goal
 
 abbrev pub invariant-loop-i : goal.invariant-loop-i
 invariant-loop-i l =
-    Walking l.context l.rest l.payload_length l.count l.total l.seen l.position l.key_start l.key_end l.i
+    Walking l.context l.rest l.payload_length l.count l.total l.seen l.position l.previous l.i

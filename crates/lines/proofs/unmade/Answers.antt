@@ -1,5 +1,0 @@
-use Rattle.octets.proofs.Lay.{laid_two}
-use Rattle.lines.proofs.unmade.Goals as goal
-
-pub returns : goal.returns
-returns c = laid_two c.number_fields-told.ensures c.hex_field.ensures (cc)

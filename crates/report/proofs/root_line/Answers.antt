@@ -1,5 +1,0 @@
-use Rattle.report.proofs.Lines.{line_accepted}
-use Rattle.report.proofs.root_line.Goals as goal
-
-pub returns : goal.returns
-returns c = search line_accepted

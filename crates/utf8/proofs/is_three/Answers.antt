@@ -1,5 +1,0 @@
--- the code tests the printed alternatives in their order
-use Rattle.utf8.proofs.is_three.Goals as goal
-
-pub returns : goal.returns
-returns c = simp (c.is_tail-tail_b.ensures, c.is_tail-tail_c.ensures)
