@@ -1,4 +1,4 @@
--- Beside a refusal every further number is 0 (docs/PROBE.md, "Output"): of the calls of the table, and of call 41. Of call 34 carryfs says it; of the length in call 33 and the numbers of call 43 no theorem does. Texts are left out there, lines `beside`.
+-- Beside a refusal every further number is 0 (docs/PROBE.md, "Output"): of the calls of the table, and of call 41. Of call 34 carryfs says it; of the length in call 33 and the numbers of call 43 no theorem does. Texts are left out there: lines `label_told`, `named_told`.
 use Rattle.std.specs.Prelude.{ℕ, List, [], ◌∷◌}
 use Rattle.carryfs.specs.Words.{Bare}
 use Rattle.calls.specs.declared.Numbers.{Numbers}

@@ -1,6 +1,7 @@
 -- How a call of probe is answered (docs/PROBE.md): its numbers as the functions take them, and its answer as fields.
-use Rattle.std.specs.Prelude.{ℕ, ◌-◌, cond, List, [], ◌∷◌, eqb, leb, replicate, Option, Some, None, Result, Ok, Err}
-use Rattle.std.specs.Result.{ResultUnwrapsOrElse}
+use Rattle.std.specs.Prelude.{ℕ, ◌+◌, ◌-◌, ◌<◌, ◌≡◌, cond, List, [], ◌∷◌, eqb, leb, replicate, Option, Some, None, Result, Ok, Err}
+use Rattle.std.specs.Result.{OkIff, ResultUnwrapsOrElse}
+use Rattle.std.specs.declared.num.TryFromIntError.{TryFromIntError}
 use Rattle.error.specs.declared.Error.{Error}
 use Rattle.error.specs.declared.Validation.{Validation}
 use Rattle.error.specs.declared.Validation.TheVariants.{Input, Disk}
@@ -22,6 +23,10 @@ at_most most value = cond (leb value most) value 0
 -- the same of a type that numbers are tried to be converted to: what the conversion gives, or the type's default (0) where it refuses
 abbrev pub IsWithin : {T E : Type 0} → (ℕ → Result T E → Type 0) → (T → Type 0) → ℕ → T → Type 0
 IsWithin {T} {E} gives is_default value t = (r : Result T E) × (gives value r × ResultUnwrapsOrElse r is_default t)
+
+-- so of a number below a limit's successor (2^8, 2^16, 2^32) the number is given, and another counts as 0
+abbrev pub WithinIsAtMost : Type 0
+WithinIsAtMost = (most n t : ℕ) → IsWithin {T = ℕ} {E = TryFromIntError} (λ v r. OkIff r (v < most + 1) v) (λ x. x ≡ 0) n t → t ≡ at_most most n
 
 -- a mode: 0 is Input, every other number Disk
 unfoldable pub mode_of : ℕ → Validation

@@ -79,21 +79,21 @@ full_byte bits words e =
 
 -- ---- the words of the first n slots, and the test of the slots of bitmap byte k by some of them
 
-module _ (g : List ℕ) (n : ℕ) (h : 32 + 4 * n ≤ length g) where
-  abbrev ws : List ℕ
-  ws = take (32 + 4 * n - 32) (drop 32 g)
+abbrev ws : List ℕ → ℕ → List ℕ
+ws g n = take (32 + 4 * n - 32) (drop 32 g)
 
-  ws_length : length ws ≡ 4 * n
+abbrev at : List ℕ → ℕ → ℕ → Bool
+at g k j = hole_zero g (8 * k + j)
+
+module _ (g : List ℕ) (n : ℕ) (h : 32 + 4 * n ≤ length g) where
+  ws_length : length (ws g n) ≡ 4 * n
   ws_length = simp (length-take, length-drop) (omega arith)
 
-  ws_chunks : length ws / 32 ≡ n / 8
+  ws_chunks : length (ws g n) / 32 ≡ n / 8
   ws_chunks = omega (arith, ws_length)
 
-  abbrev at : ℕ → ℕ → Bool
-  at k j = hole_zero g (8 * k + j)
-
   -- the words of the byte's first m slots
-  words_at : (k m : ℕ) → 8 * k + m ≤ n → take (4 * m) (drop (k * 32) ws) ≡ take (4 * m) (drop (32 + 32 * k) g)
+  words_at : (k m : ℕ) → 8 * k + m ≤ n → take (4 * m) (drop (k * 32) (ws g n)) ≡ take (4 * m) (drop (32 + 32 * k) g)
   words_at k m l =
       let w : 32 + 4 * n - 32 ≡ k * 32 + (4 * n - k * 32) = omega arith in
       let p : 32 + k * 32 ≡ 32 + 32 * k = omega arith in
@@ -102,17 +102,17 @@ module _ (g : List ℕ) (n : ℕ) (h : 32 + 4 * n ≤ length g) where
       ∙ take-take (4 * m) (4 * n - k * 32) (drop (k * 32) (drop 32 g)) (omega arith)
       ∙ ap (take (4 * m)) (drop-drop (k * 32) 32 g ∙ ap (λ (i : ℕ). drop i g) p)
 
-  slots_told : (k m : ℕ) (w : List ℕ) → m ≤ 8 → 8 * k + m ≤ n → w ≡ take (4 * m) (drop (k * 32) ws) → slots_zero (get_or g k 0) w m ≡ every (at k) m
+  slots_told : (k m : ℕ) (w : List ℕ) → m ≤ 8 → 8 * k + m ≤ n → w ≡ take (4 * m) (drop (k * 32) (ws g n)) → slots_zero (get_or g k 0) w m ≡ every (at g k) m
   unfolding slots_zero
   slots_told k m w few l e =
-      every_same (slot_zero (get_or g k 0) w) (at k) m (λ j hj.
+      every_same (slot_zero (get_or g k 0) w) (at g k) m (λ j hj.
       let p : 32 + 32 * k + 4 * j ≡ 32 + 4 * (8 * k + j) = omega arith in
       rw (e, words_at k m l, field_within g (32 + 32 * k) (4 * m) (4 * j) 4 (omega arith) (omega arith), p, bit_of g k j (omega arith)))
 
 -- ---- byte by byte: `parts` has for each byte the words of its eight slots
 
-module _ (g : List ℕ) (n : ℕ) (h : 32 + 4 * n ≤ length g) (parts : List (List ℕ)) (front : parts ≡ first_chunks 32 (length (ws g n h) / 32) (ws g n h))
-    (count : length parts ≡ length (ws g n h) / 32) where
+module _ (g : List ℕ) (n : ℕ) (h : 32 + 4 * n ≤ length g) (parts : List (List ℕ)) (front : parts ≡ first_chunks 32 (length (ws g n) / 32) (ws g n))
+    (count : length parts ≡ length (ws g n) / 32) where
   chunks : length parts ≡ n / 8
   chunks = count ∙ ws_chunks g n h
 
@@ -120,7 +120,7 @@ module _ (g : List ℕ) (n : ℕ) (h : 32 + 4 * n ≤ length g) (parts : List (L
   next_eight : (k : ℕ) (r : Bool) → k < length parts → r ≡ slots_zero (get_or g k 0) (get_or parts k []) 8 → every (hole_zero g) (8 * (k + 1)) ≡ (r && every (hole_zero g) (8 * k))
   next_eight k r l e =
       let m : 8 * (k + 1) ≡ 8 * k + 8 = omega arith in
-      let p : get_or parts k [] ≡ take 32 (drop (k * 32) (ws g n h)) = ap (λ (x : List (List ℕ)). get_or x k []) front ∙ chunk_at 32 (length (ws g n h) / 32) (ws g n h) k [] (omega (arith, count)) in
+      let p : get_or parts k [] ≡ take 32 (drop (k * 32) (ws g n)) = ap (λ (x : List (List ℕ)). get_or x k []) front ∙ chunk_at 32 (length (ws g n) / 32) (ws g n) k [] (omega (arith, count)) in
       ap (every (hole_zero g)) m ∙ every_join (hole_zero g) (8 * k) 8
       ∙ ap (λ (b : Bool). b && every (hole_zero g) (8 * k)) (sym (e ∙ slots_told g n h k 8 (get_or parts k []) (omega arith) (omega (arith, chunks)) p))
 
@@ -131,15 +131,15 @@ module _ (g : List ℕ) (n : ℕ) (h : 32 + 4 * n ≤ length g) (parts : List (L
   bytes_stop k r l y e = sym (every_longer (hole_zero g) (8 * (k + 1)) n (omega (arith, l, chunks)) (next_eight k r l e ∙ and_first _ _ y))
 
   -- the slots of the last byte
-  pub bytes_end : (k : ℕ) (r : Bool) (w : List ℕ) → length parts ≤ k → k ≤ length parts → every (hole_zero g) (8 * k) ≡ true → w ≡ drop (length (ws g n h) / 32 * 32) (ws g n h)
+  pub bytes_end : (k : ℕ) (r : Bool) (w : List ℕ) → length parts ≤ k → k ≤ length parts → every (hole_zero g) (8 * k) ≡ true → w ≡ drop (length (ws g n) / 32 * 32) (ws g n)
       → r ≡ slots_zero (get_or g (n / 8) 0) w (n % 8) → r ≡ every (hole_zero g) n
   bytes_end k r w lo hi first e s =
-      let i : length (ws g n h) / 32 * 32 ≡ n / 8 * 32 = omega (arith, ws_chunks g n h) in
-      let rest : w ≡ take (4 * (n % 8)) (drop (n / 8 * 32) (ws g n h)) =
-      e ∙ ap (λ (j : ℕ). drop j (ws g n h)) i ∙ sym (take_all (4 * (n % 8)) (drop (n / 8 * 32) (ws g n h)) (rw length-drop (omega (arith, ws_length g n h)))) in
+      let i : length (ws g n) / 32 * 32 ≡ n / 8 * 32 = omega (arith, ws_chunks g n h) in
+      let rest : w ≡ take (4 * (n % 8)) (drop (n / 8 * 32) (ws g n)) =
+      e ∙ ap (λ (j : ℕ). drop j (ws g n)) i ∙ sym (take_all (4 * (n % 8)) (drop (n / 8 * 32) (ws g n)) (rw length-drop (omega (arith, ws_length g n h)))) in
       let m : n ≡ 8 * (n / 8) + n % 8 = omega arith in
       let whole : 8 * k ≡ 8 * (n / 8) = omega (arith, chunks) in
       s ∙ slots_told g n h (n / 8) (n % 8) w (omega arith) (omega arith) rest
       ∙ sym
       (ap (every (hole_zero g)) m ∙ every_join (hole_zero g) (8 * (n / 8)) (n % 8)
-      ∙ ap (λ (b : Bool). every (at g n h (n / 8)) (n % 8) && b) (sym (ap (every (hole_zero g)) whole) ∙ first) ∙ and-true (every (at g n h (n / 8)) (n % 8)))
+      ∙ ap (λ (b : Bool). every (at g (n / 8)) (n % 8) && b) (sym (ap (every (hole_zero g)) whole) ∙ first) ∙ and-true (every (at g (n / 8)) (n % 8)))

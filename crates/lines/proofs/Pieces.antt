@@ -1,5 +1,5 @@
 -- Texts of calls, put together of their pieces.
-use Prim.Native.Nat.{ℕ, ◌-◌, ◌<◌, ◌≤◌}
+use Prim.Native.Nat.{ℕ, ◌-◌, ◌≤◌}
 use mathlib.Core.Path.{◌≡◌, ◌∙◌}
 use mathlib.Core.List.{List}
 use native.Mathlib.Omega.{arith}
@@ -8,11 +8,6 @@ use Rattle.std.specs.Prelude.{Option, Some}
 use Rattle.std.specs.Borrow.{MutBor}
 use Rattle.std.specs.List.{PartMut}
 use Rattle.std.proofs.lemmas.List.{take-replicate, length-replicate}
-use borrow.Author.Tests.{le-leb, lt-leb}
-use Rattle.std.specs.Prelude.{Ok, Err}
-use Rattle.std.specs.Result.{OkIff}
-use Rattle.std.specs.declared.num.TryFromIntError.{TryFromIntError}
-use Rattle.calls.specs.Told.{at_most, IsWithin}
 
 -- the front of n equal entries that is lent
 front_of : (n m x : ℕ) (b : MutBor (List ℕ)) → PartMut (replicate n x) 0 m (Some b) → b.now ≡ replicate m x
@@ -23,9 +18,3 @@ front_of n m x b p =
 
 pub front_lent : (n m x : ℕ) (b : MutBor (List ℕ)) {r : Option (MutBor (List ℕ))} → PartMut (replicate n x) 0 m r → r ≡ Some b → b.now ≡ replicate m x
 front_lent n m x b p e = front_of n m x b (rw e at p)
-
--- a number within the range of 16 bits
-pub within_short : {n t : ℕ} → IsWithin {T = ℕ} {E = TryFromIntError} (λ v r. OkIff r (v < 65536) v) (λ x. x ≡ 0) n t → t ≡ at_most 65535 n
-unfolding at_most
-within_short {n = n} {t = t} (Ok x, (k, u)) = let l : n ≤ 65535 = let m = k.0 in omega (arith, m) in rw (le-leb n 65535 l) (u ∙ k.1)
-within_short {n = n} {t = t} (Err e, (k, u)) = let l : 65535 < n = omega (arith, k) in rw (lt-leb n 65535 l) u
