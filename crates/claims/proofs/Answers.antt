@@ -1,7 +1,7 @@
 -- Demand 1's statement holds: every refusal in a list of demands is one of 01's table, and so is what is made of it.
 use Prim.Native.Nat.{ℕ, zero, suc}
 use mathlib.Core.Path.{◌≡◌, refl}
-use mathlib.Core.Bool.{Bool, true, false, ◌&&◌, ◌||◌, cond}
+use mathlib.Core.Bool.{Bool, true, false, ◌&&◌, ◌||◌, cond, true≢false}
 use mathlib.Core.List.{List, [], ◌∷◌}
 use lib.Dec.{eqb}
 use lib.IntN.{ℤ}
@@ -12,7 +12,7 @@ use Rattle.error.specs.declared.Validation.{Validation}
 use Rattle.error.specs.declared.Validation.TheVariants.{Input, Disk}
 use Rattle.std.specs.Prelude.{Option, Some, None, Result, Ok, Err}
 use Rattle.error.specs.Answer.{Number, class_of, reason_of, check_class, check_reason, number_check, number_of, violation_of}
-use Rattle.error.specs.Demand.{Demand, refusal_of, outcome, demands}
+use Rattle.error.specs.Demand.{Demand, passing, outcome, demands}
 use Rattle.error.specs.Reason as reason
 use Rattle.error.proofs.Tests.{and_right}
 use Rattle.volume.specs.declared.TreeRef.{TreeRef}
@@ -46,24 +46,28 @@ use Rattle.claims.specs.Answers.{is_reason, is_answer, is_in, is_answer_in, Answ
 
 -- ---- lists of demands
 
--- what holds of each refusal of a list
-abbrev pub Every : (Error → Type 0) → List Demand → Type 0
+-- what holds of each demand of a list
+abbrev pub Every : (Demand → Type 0) → List Demand → Type 0
 Every Q [] = Unit
-Every Q (d ∷ ds) = Q d.refusal × Every Q ds
+Every Q (d ∷ ds) = Q d × Every Q ds
 
--- what holds of each refusal, and of the result, holds of what a list answers
-pub ends : {A : Type 0} (Q : Error → Type 0) (P : Result A Error → Type 0) (accepted : Result A Error) → ((e : Error) → Q e → P (Err e)) → P accepted → (ds : List Demand) → Every Q ds → P (outcome ds accepted)
+-- what holds of each refusal whose test fails, and of the result, holds of what a list answers
+pub ends : {A : Type 0} (Q : Demand → Type 0) (P : Result A Error → Type 0) (accepted : Result A Error) → ((d : Demand) → Q d → d.test ≡ false → P (Err d.refusal)) → P accepted → (ds : List Demand) → Every Q ds → P (outcome ds accepted)
 unfolding outcome
 ends Q P accepted r a [] h = a
-ends Q P accepted r a (d ∷ ds) h = go d.test (ends Q P accepted r a ds h.1)
+ends Q P accepted r a (d ∷ ds) h = go d.test refl (ends Q P accepted r a ds h.1)
   where
-    go : (b : Bool) → P (outcome ds accepted) → P (cond b (outcome ds accepted) (Err d.refusal))
-    go true k = k
-    go false k = r d.refusal h.0
+    go : (b : Bool) → d.test ≡ b → P (outcome ds accepted) → P (cond b (outcome ds accepted) (Err d.refusal))
+    go true p k = k
+    go false p k = r d h.0 p
 
 -- a refusal of 01's table, in a mode
 record Good (mode : Validation) (e : Error) : Type 0 where
   told : is_answer_in mode (class_of e) (reason_of e) ≡ true
+
+-- a demand that refuses so, where its test fails
+record Refuses (mode : Validation) (d : Demand) : Type 0 where
+  failing : d.test ≡ false → Good mode d.refusal
 
 passing_answers : {A : Type 0} {mode : Validation} {a : A} → AnswersIn mode (Ok a)
 passing_answers {A} {mode} {a} = go mode
@@ -76,13 +80,13 @@ refused_answers : {A : Type 0} {mode : Validation} (e : Error) → Good mode e �
 refused_answers e g = record { told = g.told }
 
 -- a list of demands answers so, where what it gives does
-numbered : {A : Type 0} {mode : Validation} (r : Result A Error) → AnswersIn mode r → (ds : List Demand) → Every (Good mode) ds → AnswersIn mode (outcome ds r)
-numbered {A} {mode} r a = ends (Good mode) (AnswersIn mode) r refused_answers a
+numbered : {A : Type 0} {mode : Validation} (r : Result A Error) → AnswersIn mode r → (ds : List Demand) → Every (Refuses mode) ds → AnswersIn mode (outcome ds r)
+numbered {A} {mode} r a = ends (Refuses mode) (AnswersIn mode) r (λ d h p. refused_answers d.refusal (h.failing p)) a
 
-valued : {A : Type 0} {mode : Validation} (n : A) (ds : List Demand) → Every (Good mode) ds → AnswersIn mode (outcome ds (Ok n))
+valued : {A : Type 0} {mode : Validation} (n : A) (ds : List Demand) → Every (Refuses mode) ds → AnswersIn mode (outcome ds (Ok n))
 valued n = numbered (Ok n) passing_answers
 
-listed : {mode : Validation} (ds : List Demand) → Every (Good mode) ds → AnswersIn mode (demands ds)
+listed : {mode : Validation} (ds : List Demand) → Every (Refuses mode) ds → AnswersIn mode (demands ds)
 listed = valued tt
 
 -- a violation in either mode
@@ -99,9 +103,8 @@ corrupt : (mode : Validation) (r : ℕ) → is_reason r ≡ true → Good mode (
 corrupt Input r e = record { told = e }
 corrupt Disk r e = record { told = e }
 
-unsupported : (mode : Validation) → Good mode UnsupportedFormat
-unsupported Input = record { told = refl }
-unsupported Disk = record { told = refl }
+unsupported : Good Input UnsupportedFormat
+unsupported = record { told = refl }
 
 input : (r : ℕ) → is_reason r ≡ true → Good Input (InvalidInput r)
 input r e = record { told = e }
@@ -109,19 +112,23 @@ input r e = record { told = e }
 geometry : Good Input InvalidGeometry
 geometry = record { told = refl }
 
+-- whatever its test is
+always : {mode : Validation} (d : Demand) → Good mode d.refusal → Refuses mode d
+always d g = record { failing = λ p. g }
+
 -- a check that is one demand of a longer chain
-passed_on : {A : Type 0} (mode : Validation) (c : Result A Error) → AnswersIn mode c → Good mode (refusal_of c)
-passed_on mode (Ok a) h = unsupported mode
-passed_on mode (Err e) h = record { told = h.told }
+passed_on : {A : Type 0} (mode : Validation) (c : Result A Error) → AnswersIn mode c → Refuses mode (passing c)
+passed_on mode (Ok a) h = record { failing = λ p. absurd (true≢false p) }
+passed_on mode (Err e) h = record { failing = λ p. record { told = h.told } }
 
 -- one of mode Disk, in a chain that holds other answers too
 weaker : {A : Type 0} {c : Result A Error} → AnswersIn Disk c → Answers c
 weaker {A} {c} h = record { told = and_right (is_in Disk (check_class c)) (is_answer (check_class c) (check_reason c)) h.told }
 
-disk_passed_on : {A : Type 0} (c : Result A Error) → AnswersIn Disk c → Good Input (refusal_of c)
+disk_passed_on : {A : Type 0} (c : Result A Error) → AnswersIn Disk c → Refuses Input (passing c)
 disk_passed_on c h = passed_on Input c (weaker h)
 
-ruleset good = (violated, too_long, corrupt, unsupported, input, geometry, passed_on, disk_passed_on)
+ruleset good = (always, violated, too_long, corrupt, unsupported, input, geometry, passed_on, disk_passed_on)
 
 -- one of two
 either : {A : Type 0} {mode : Validation} (b : Bool) (c d : Result A Error) → AnswersIn mode c → AnswersIn mode d → AnswersIn mode (cond b c d)
@@ -298,7 +305,7 @@ leaf_answers : (kind : TreeKind) (key value : List ℕ) (blocks generation : ℕ
 unfolding validate_leaf_record
 leaf_answers kind key value blocks generation mode = valued (leaf_blocks kind key value) (leaf_demands kind key value blocks generation mode) (go kind)
   where
-    go : (k : TreeKind) → Every (Good mode) (leaf_demands k key value blocks generation mode)
+    go : (k : TreeKind) → Every (Refuses mode) (leaf_demands k key value blocks generation mode)
     go TreeKind.Catalog = (passed_on _ _ (key_answers key mode), (passed_on _ _ (catalog_answers key value blocks mode), tt))
     go TreeKind.Allocation = (passed_on _ _ (allocation_answers key value blocks mode), tt)
     go TreeKind.Cleanup = (passed_on _ _ (cleanup_answers key value blocks generation mode), tt)
@@ -321,7 +328,7 @@ join_answers false total seen n mode = listed (join_demands false total seen n m
 module _ (leaf : Bool) (mode : Validation) (own : Own) (owned : (key value : List ℕ) → AnswersIn mode (own key value)) where
   walk_answers : (n : ℕ) (rest : List ℕ) (left : ℕ) (previous : List ℕ) (total : ℕ) (seen : List ℕ) → AnswersIn mode (walk leaf mode own n rest left previous total seen)
   unfolding walk
-  walk_answers zero rest left previous total seen = valued total (_ ∷ []) (violated mode reason.payload_has_unconsumed_bytes refl, tt)
+  walk_answers zero rest left previous total seen = valued total (_ ∷ []) (always _ (violated mode reason.payload_has_unconsumed_bytes refl), tt)
   walk_answers (suc n) rest left previous total seen =
       numbered _ (walk_answers n _ _ _ _ _) (record_demands leaf mode own rest left previous total seen)
       (passed_on _ _ (form_answers rest left previous mode), (passed_on _ _ (owned (key_of rest) (value_of rest)), (passed_on _ _ (join_answers leaf total seen (number_of (own_answer own rest)) mode), tt)))
@@ -413,7 +420,7 @@ refs_answers r blocks mode = listed (refs_demands r blocks mode) (search (good, 
 
 bank_answers : (r : Root) (blocks : ℕ) (mode : Validation) → AnswersIn mode (check_workspace r blocks mode)
 unfolding check_workspace
-bank_answers r blocks mode = listed (workspace_demands r blocks mode) (passed_on _ _ (page_ref_answers r.workspace TreeKind.Workspace blocks mode), (violated mode reason.invalid_workspace_root refl, tt))
+bank_answers r blocks mode = listed (workspace_demands r blocks mode) (passed_on _ _ (page_ref_answers r.workspace TreeKind.Workspace blocks mode), (always _ (violated mode reason.invalid_workspace_root refl), tt))
 
 trees_answers : (r : Root) (mode : Validation) → AnswersIn mode (check_trees r mode)
 unfolding check_trees

@@ -9,7 +9,7 @@ use Rattle.error.specs.declared.Error.{Error}
 use Rattle.error.specs.declared.Validation.TheVariants.{Input, Disk}
 use Rattle.std.specs.Prelude.{Option, None, Result, Ok, Err}
 use Rattle.error.specs.Answer.{Number, class_of, check_class, check_reason}
-use Rattle.error.specs.Demand.{Demand, refusal_of, outcome, demands}
+use Rattle.error.specs.Demand.{Demand, passing, outcome, demands}
 use Rattle.error.proofs.Tests.{and_left}
 use Rattle.crc.specs.Crc.{crc32c}
 use Rattle.crc.specs.DataUnit.{data_unit, data_unit_demands, data_unit_crc}
@@ -28,15 +28,15 @@ use Rattle.claims.specs.Answers.{is_in, is_answer, AnswersIn}
 use Rattle.claims.specs.Classes.{root_classes, page_classes, group_classes, unit_classes, Classes}
 use Rattle.claims.proofs.Answers.{Every, ends, content_answers, root_fields_answers, chosen_answers}
 
-abbrev Of : List ℕ → Error → Type 0
-Of cs e = is_one_of (class_of e) cs ≡ true
+abbrev Of : List ℕ → Demand → Type 0
+Of cs d = is_one_of (class_of d.refusal) cs ≡ true
 
 record Within {A : Type 0} (cs : List ℕ) (c : Result A Error) : Type 0 where
   within : is_one_of (check_class c) cs ≡ true
 
 module _ (cs : List ℕ) (passed : is_one_of 0 cs ≡ true) (three : is_one_of 3 cs ≡ true) where
   gives : {A : Type 0} (r : Result A Error) → Within cs r → (ds : List Demand) → Every (Of cs) ds → Within cs (outcome ds r)
-  gives r a = ends (Of cs) (Within cs) r (λ e g. record { within = g }) a
+  gives r a = ends (Of cs) (Within cs) r (λ d g p. record { within = g }) a
 
   value : {A : Type 0} (a : A) (ds : List Demand) → Every (Of cs) ds → Within cs (outcome ds (Ok a))
   value a = gives (Ok a) (record { within = passed })
@@ -59,21 +59,20 @@ module _ (cs : List ℕ) (passed : is_one_of 0 cs ≡ true) (three : is_one_of 3
 
   module _ (two : is_one_of 2 cs ≡ true) (four : is_one_of 4 cs ≡ true) where
     -- a check that is one demand of a longer chain
-    kept : {A : Type 0} {c : Result A Error} → Within cs c → Of cs (refusal_of c)
+    kept : {A : Type 0} {c : Result A Error} → Within cs c → Of cs (passing c)
     kept {A} {c} h = go c h
       where
-        go : (c : Result A Error) → Within cs c → Of cs (refusal_of c)
+        go : (c : Result A Error) → Within cs c → Of cs (passing c)
         go (Ok a) h = four
         go (Err e) h = h.within
 
     -- what is answered in mode Disk
     disk : {A : Type 0} {c : Result A Error} → AnswersIn Disk c → Within cs c
-    disk {A} {c} h = record { within = go (eqb (check_class c) 0) (eqb (check_class c) 3) refl refl (and_left (is_in Disk (check_class c)) (is_answer (check_class c) (check_reason c)) h.told) }
+    disk {A} {c} h = record { within = go (eqb (check_class c) 0) refl (and_left (is_in Disk (check_class c)) (is_answer (check_class c) (check_reason c)) h.told) }
       where
-        go : (a b : Bool) → eqb (check_class c) 0 ≡ a → eqb (check_class c) 3 ≡ b → (a || (b || eqb (check_class c) 4)) ≡ true → is_one_of (check_class c) cs ≡ true
-        go true b p q k = rw (eqb-true (check_class c) 0 p) passed
-        go false true p q k = rw (eqb-true (check_class c) 3 q) three
-        go false false p q k = rw (eqb-true (check_class c) 4 k) four
+        go : (a : Bool) → eqb (check_class c) 0 ≡ a → (a || eqb (check_class c) 3) ≡ true → is_one_of (check_class c) cs ≡ true
+        go true p k = rw (eqb-true (check_class c) 0 p) passed
+        go false p k = rw (eqb-true (check_class c) 3 k) three
 
     -- ---- section 2, in mode Input
     blocks_in : (blocks : ℕ) → Within cs (validate_blocks blocks Input)
@@ -191,7 +190,7 @@ UnitAnswer n = (is_one_of (check_class n) unit_classes ≡ true) × (check_reaso
 unit_in : (uuid : List ℕ) (object unit : ℕ) (valid : List ℕ) → UnitAnswer (data_unit_crc uuid object unit valid)
 unfolding data_unit_crc
 unit_in uuid object unit valid =
-    ends (λ (e : Error). UnitAnswer (Err e)) UnitAnswer (Ok (crc32c (data_unit uuid object unit valid))) (λ e g. g) (refl, refl) (data_unit_demands valid) ((refl, refl), tt)
+    ends (λ (d : Demand). UnitAnswer (Err d.refusal)) UnitAnswer (Ok (crc32c (data_unit uuid object unit valid))) (λ d g p. g) (refl, refl) (data_unit_demands valid) ((refl, refl), tt)
 
 pub classes : Classes
 classes = record {

@@ -40,10 +40,10 @@ abbrev pub is_answer : ℕ → ℕ → Bool
 is_answer class reason =
     ((eqb class 0 || (eqb class 1 || eqb class 4)) && eqb reason 0) || ((eqb class 2 || (eqb class 3 || eqb class 6)) && is_reason reason)
 
--- which classes a mode has: in mode Disk nothing is the caller's error, so none of 1, 2 and 6; mode Input rules none out
+-- which classes a mode has: in mode Disk it is the stored bytes that are refused, with class 3; mode Input rules none out
 abbrev pub is_in : Validation → ℕ → Bool
 is_in Input class = true
-is_in Disk class = eqb class 0 || (eqb class 3 || eqb class 4)
+is_in Disk class = eqb class 0 || eqb class 3
 
 -- a class and a reason of the table, in a mode that has the class
 abbrev pub is_answer_in : Validation → ℕ → ℕ → Bool
