@@ -26,13 +26,13 @@ use Rattle.page.specs.Header.{expected_of}
 use Rattle.page.specs.Page.{decode_page}
 use Rattle.page.specs.Unchecked.{verified_page_view, draft_page_view}
 use Rattle.root.specs.Select.{choose_root}
-use Rattle.carryfs.specs.Words.{flag, check_words, unit_words, slot_words, slot_root, choice_words, page_words}
+use Rattle.carryfs.specs.Words.{flag, check_words, number_words, slot_words, slot_root, choice_words, page_words}
 use Rattle.calls.specs.declared.Numbers.{Numbers}
 use Rattle.calls.specs.Told.{at_most, mode_of, reference_to, order_number, child_fields, group_fields, front_fields, step_fields, draft_fields, Row, ◌tells◌, fields_in}
 
 -- class, reason, the word of a data unit
 abbrev pub unit_fields : Numbers → List ℕ → List ℕ → List ℕ
-unit_fields n uuid valid = unit_words (data_unit_crc (padded_to 16 uuid) n.a n.b valid)
+unit_fields n uuid valid = number_words (data_unit_crc (padded_to 16 uuid) n.a n.b valid)
 
 -- calls 1 to 5: checksum words
 unfoldable pub word_rows : Numbers → List ℕ → List ℕ → List Row
@@ -49,9 +49,9 @@ unfoldable pub octet_rows : Numbers → List ℕ → List ℕ → List Row
 octet_rows n a b =
     6 tells (flag (utf8 a) ∷ [])
     ∷ 7 tells (flag (all_zero a) ∷ [])
-    ∷ 8 tells unit_words (read_of a n.a 2 (at_most 65535 n.b))
-    ∷ 9 tells unit_words (read_of a n.a 4 (at_most 65535 n.b))
-    ∷ 10 tells unit_words (read_of a n.a 8 (at_most 65535 n.b))
+    ∷ 8 tells number_words (read_of a n.a 2 (at_most 65535 n.b))
+    ∷ 9 tells number_words (read_of a n.a 4 (at_most 65535 n.b))
+    ∷ 10 tells number_words (read_of a n.a 8 (at_most 65535 n.b))
     ∷ 11 tells (order_number (order a b) ∷ [])
     ∷ []
 
@@ -62,7 +62,7 @@ block_rows n =
     ∷ 13 tells (flag (is_bank_block n.a n.b) ∷ [])
     ∷ 14 tells (flag (is_nonreserved_block n.a n.b) ∷ [])
     ∷ 15 tells group_fields (reserved_group_blocks n.a n.b)
-    ∷ 16 tells unit_words (allocation_group_count n.a)
+    ∷ 16 tells number_words (allocation_group_count n.a)
     ∷ 17 tells check_words (validate_tree_ref (reference_to n.a n.b) n.c (mode_of n.d))
     ∷ 18 tells check_words (validate_page_ref (reference_to n.a n.b) (tree_kind_of n.c) n.d (mode_of n.e))
     ∷ 19 tells check_words (validate_root_slot n.a n.b (mode_of n.c))
@@ -85,16 +85,16 @@ inode_rows n a =
 unfoldable pub entry_rows : Numbers → List ℕ → List ℕ → List Row
 entry_rows n a b =
     24 tells check_words (validate_directory_entry a (mode_of n.a))
-    ∷ 25 tells unit_words (validate_extent a b n.a (mode_of n.b))
+    ∷ 25 tells number_words (validate_extent a b n.a (mode_of n.b))
     ∷ 26 tells check_words (validate_checksum_group a b (mode_of n.a))
     ∷ []
 
 -- calls 27 to 31: records of a tree, a group's slots and its stored form
 unfoldable pub record_rows : Numbers → List ℕ → List ℕ → List Row
 record_rows n a b =
-    27 tells unit_words (validate_leaf_record (tree_kind_of n.a) a b n.b n.c (mode_of n.d))
+    27 tells number_words (validate_leaf_record (tree_kind_of n.a) a b n.b n.c (mode_of n.d))
     ∷ 28 tells child_fields (validate_internal_record (tree_kind_of n.a) a b n.b n.c (mode_of n.d))
-    ∷ 29 tells unit_words (leaf_record_blocks (tree_kind_of n.a) a b n.b n.c)
+    ∷ 29 tells number_words (leaf_record_blocks (tree_kind_of n.a) a b n.b n.c)
     ∷ 30 tells slot_words (checksum_slot a n.a)
     ∷ 31 tells front_fields a
     ∷ []
@@ -133,7 +133,7 @@ page_rows n a b =
     ∷ 37 tells page_words (view_asked n a b)
     ∷ 38 tells draft_fields (draft_page_view a)
     ∷ 40 tells step_fields (next_record a n.a)
-    ∷ 42 tells unit_words (walked_records n a)
+    ∷ 42 tells number_words (walked_records n a)
     ∷ []
 
 -- all of them

@@ -1,6 +1,6 @@
 // Calls 6 to 11: UTF-8, zeros, stored numbers, bytewise order.
 ghost use Rattle.std.specs.Prelude.{◌≡◌, [], ◌∷◌};
-ghost use Rattle.carryfs.specs.Words.{unit_words};
+ghost use Rattle.carryfs.specs.Words.{number_words};
 ghost use Rattle.calls.specs.Told.{order_number, fields_in};
 ghost use Rattle.calls.specs.Table.{octet_rows};
 

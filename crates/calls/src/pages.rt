@@ -1,6 +1,6 @@
 // Calls 36 to 38, 40 and 42: pages and their records.
 ghost use Rattle.std.specs.Prelude.{◌≡◌};
-ghost use Rattle.carryfs.specs.Words.{page_words, unit_words};
+ghost use Rattle.carryfs.specs.Words.{page_words, number_words};
 ghost use Rattle.calls.specs.Told.{fields_in, step_fields, draft_fields};
 ghost use Rattle.calls.specs.Table.{page_rows, page_asked, view_asked, walked_records};
 
@@ -81,7 +81,7 @@ fn verified_page_view(n: Numbers, uuid: &[u8], page: &[u8]) -> Result<Page, Erro
 
 #[tactic(auto, unfolding(crate::specs::Told::at_most, crate::specs::Table::walked_records))]
 fn validate_records(n: Numbers, rest: &[u8]) -> Fields
-    ensures { result ≡ unit_words (walked_records n rest.now) }
+    ensures { result ≡ number_words (walked_records n rest.now) }
 {
     let context = RecordValidation {
         kind: volume::tree_kind_of(n.a),

@@ -1,6 +1,6 @@
 // The fields of most calls: up to seven numbers.
 ghost use Rattle.std.specs.Prelude.{◌≡◌, [], ◌∷◌, ◌≤◌};
-ghost use Rattle.carryfs.specs.Words.{flag, check_words, unit_words};
+ghost use Rattle.carryfs.specs.Words.{flag, check_words, number_words};
 
 use error::Error;
 use std::marker::Model;
@@ -64,7 +64,7 @@ pub(crate) fn check(answer: Result<(), Error>) -> Fields
 
 // Class, reason, and the number behind them.
 pub(crate) fn number(answer: Result<u64, Error>) -> Fields
-    ensures { result ≡ unit_words answer }
+    ensures { result ≡ number_words answer }
 {
-    told(carryfs::unit_words(answer))
+    told(carryfs::number_words(answer))
 }

@@ -10,7 +10,7 @@ use Rattle.octets.specs.Bytes.{all_zero}
 use Rattle.page.specs.declared.Page.{Page}
 use Rattle.root.specs.declared.Root.{Root}
 use Rattle.root.specs.declared.Selected.{Selected}
-use Rattle.carryfs.specs.Words.{slot_words, unit_words, root_words, root_text, choice_words, page_words, asked_page, Bare, BesideRefusals}
+use Rattle.carryfs.specs.Words.{slot_words, number_words, root_words, root_text, choice_words, page_words, asked_page, Bare, BesideRefusals}
 
 -- an accepted answer has class 0
 accepted : {P : Type 0} → (◌≡◌ {A = ℕ} 0 0 → ⊥) → P
@@ -21,8 +21,8 @@ slot_bare (Ok (Some w)) h = accepted h
 slot_bare (Ok None) h = accepted h
 slot_bare (Err e) h = refl
 
-unit_bare : (n : Number) → Bare (unit_words n)
-unfolding unit_words
+unit_bare : (n : Number) → Bare (number_words n)
+unfolding number_words
 unit_bare (Ok n) h = accepted h
 unit_bare (Err e) h = refl
 

@@ -59,9 +59,9 @@ group_words key value = check_words (validate_checksum_group key value Disk)
 abbrev pub is_uuid : ℕ → Bool
 is_uuid size = eqb size 16
 
--- class, reason, the word of a data unit
-unfoldable pub unit_words : Number → List ℕ
-unit_words n = check_class n ∷ check_reason n ∷ number_of n ∷ []
+-- class, reason, the number of a check that gives one
+unfoldable pub number_words : Number → List ℕ
+number_words n = check_class n ∷ check_reason n ∷ number_of n ∷ []
 
 -- whether there is a record, its index, how many records there are from it on, where they start in the payload
 unfoldable pub floor_words : Option Answer → List ℕ
@@ -137,7 +137,7 @@ Bare words = (get_or words 0 0 ≡ 0 → ⊥) → all_zero (drop 2 words) ≡ tr
 -- call by call (`carryfs_group` has no other words); a root's text too
 pub record BesideRefusals : Type 0 where
   pub slot : (s : Result (Option ℕ) Error) → Bare (slot_words s)
-  pub unit : (n : Number) → Bare (unit_words n)
+  pub unit : (n : Number) → Bare (number_words n)
   pub root : (d : Result Root Error) → Bare (root_words d)
   pub text : (d : Result Root Error) → (check_class d ≡ 0 → ⊥) → all_zero (root_text d) ≡ true
   pub choice : (s : Result Selected Error) → Bare (choice_words s)

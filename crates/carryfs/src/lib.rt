@@ -3,7 +3,7 @@
 
 ghost use Rattle.std.specs.Prelude.{◌≡◌, ◌++◌};
 ghost use Rattle.root.specs.Root.{root_decode};
-ghost use Rattle.carryfs.specs.Words.{refused_words, slot_words, check_words, unit_words, floor_words, step_words, label_len, label_bytes, root_words, root_text, slot_root, choice_words, page_words};
+ghost use Rattle.carryfs.specs.Words.{refused_words, slot_words, check_words, number_words, floor_words, step_words, label_len, label_bytes, root_words, root_text, slot_root, choice_words, page_words};
 
 use error::Error;
 use lookup::{Answer, Step};
@@ -46,9 +46,9 @@ pub fn check_words(check: Result<(), Error>) -> [u64; 2]
 }
 
 // A check that gives a number: class, reason, the number.
-#[tactic(auto, unfolding(crate::specs::Words::unit_words))]
-pub fn unit_words(sum: Result<u64, Error>) -> [u64; 3]
-    ensures { result ≡ unit_words sum }
+#[tactic(auto, unfolding(crate::specs::Words::number_words))]
+pub fn number_words(sum: Result<u64, Error>) -> [u64; 3]
+    ensures { result ≡ number_words sum }
 {
     match sum {
         Ok(word) => [0, 0, word],

@@ -10,7 +10,7 @@ ghost use Rattle.group.specs.Group.{checksum_slot};
 ghost use Rattle.lookup.specs.Floor.{floor_answer, scratch_of, next_record};
 ghost use Rattle.root.specs.Root.{root_decode};
 ghost use Rattle.root.specs.Select.{choose_root};
-ghost use Rattle.carryfs.specs.Words.{room, status_of, asked_status, placed, slot_words, group_words, is_uuid, unit_words, floor_words, step_words, root_words, root_text, slot_root, choice_words, can_ask, asked_page};
+ghost use Rattle.carryfs.specs.Words.{room, status_of, asked_status, placed, slot_words, group_words, is_uuid, number_words, floor_words, step_words, root_words, root_text, slot_root, choice_words, can_ask, asked_page};
 
 use error::Validation;
 use root::Root;
@@ -80,12 +80,12 @@ pub extern "C" fn carryfs_data_unit(
     out: &mut [u64],
 ) -> u32
     ensures value { result ≡ asked_status (is_uuid (length uuid.now)) (room 3 out.old) }
-    ensures out_after { out.new ≡ placed (is_uuid (length uuid.now) && room 3 out.old) (unit_words (data_unit_crc uuid.now object unit valid.now)) out.old }
+    ensures out_after { out.new ≡ placed (is_uuid (length uuid.now) && room 3 out.old) (number_words (data_unit_crc uuid.now object unit valid.now)) out.old }
 {
     let Ok(id) = <&[u8; 16]>::try_from(uuid) else {
         return 2;
     };
-    let words = carryfs::unit_words(crc::data_unit_crc(id, object, unit, valid));
+    let words = carryfs::number_words(crc::data_unit_crc(id, object, unit, valid));
     place(&words, out)
 }
 

@@ -343,39 +343,39 @@ records_answers rest payload_length count c =
     numbered _ (walk_answers (is_leaf c) c.mode (own_rules c) (own_answers (is_leaf c) c) count rest payload_length [] 0 []) (size_demands rest payload_length count c.mode) (search good)
 
 -- ---- section 4
-caller_answers : (reference : TreeRef) (uuid : List ℕ) (kind : TreeKind) (parent : ℕ) (expected : Option ℕ) (blocks : ℕ) (page : List ℕ) → Answers (check_caller reference uuid kind parent expected blocks page)
+caller_answers : (reference : TreeRef) (uuid : List ℕ) (kind : TreeKind) (parent_generation : ℕ) (expected_level : Option ℕ) (blocks : ℕ) (page : List ℕ) → Answers (check_caller reference uuid kind parent_generation expected_level blocks page)
 unfolding check_caller
-caller_answers reference uuid kind parent expected blocks page = listed (caller_demands reference uuid kind parent expected blocks page) (search (good, blocks_answers, page_ref_answers, uuid_answers))
+caller_answers reference uuid kind parent_generation expected_level blocks page = listed (caller_demands reference uuid kind parent_generation expected_level blocks page) (search (good, blocks_answers, page_ref_answers, uuid_answers))
 
 format_answers : (page : List ℕ) → Answers (check_format page)
 unfolding check_format
 format_answers page = listed (format_demands page) (search good)
 
-page_kind_answers : (kind : TreeKind) (expected : Option ℕ) (page : List ℕ) → Answers (check_kind kind expected page)
+page_kind_answers : (kind : TreeKind) (expected_level : Option ℕ) (page : List ℕ) → Answers (check_kind kind expected_level page)
 unfolding check_kind
-page_kind_answers kind expected page = listed (kind_demands kind expected page) (search good)
+page_kind_answers kind expected_level page = listed (kind_demands kind expected_level page) (search good)
 
-identity_answers : (reference : TreeRef) (uuid : List ℕ) (kind : TreeKind) (parent blocks : ℕ) (page : List ℕ) → Answers (check_identity reference uuid kind parent blocks page)
+identity_answers : (reference : TreeRef) (uuid : List ℕ) (kind : TreeKind) (parent_generation blocks : ℕ) (page : List ℕ) → Answers (check_identity reference uuid kind parent_generation blocks page)
 unfolding check_identity
-identity_answers reference uuid kind parent blocks page = listed (identity_demands reference uuid kind parent blocks page) (search good)
+identity_answers reference uuid kind parent_generation blocks page = listed (identity_demands reference uuid kind parent_generation blocks page) (search good)
 
-header_answers : (reference : TreeRef) (uuid : List ℕ) (kind : TreeKind) (parent : ℕ) (expected : Option ℕ) (blocks : ℕ) (page : List ℕ) → Answers (validate_page_header reference uuid kind parent expected blocks page)
+header_answers : (reference : TreeRef) (uuid : List ℕ) (kind : TreeKind) (parent_generation : ℕ) (expected_level : Option ℕ) (blocks : ℕ) (page : List ℕ) → Answers (validate_page_header reference uuid kind parent_generation expected_level blocks page)
 unfolding validate_page_header
-header_answers reference uuid kind parent expected blocks page =
-    listed (header_demands reference uuid kind parent expected blocks page) (search (good, caller_answers, format_answers, page_kind_answers, identity_answers))
+header_answers reference uuid kind parent_generation expected_level blocks page =
+    listed (header_demands reference uuid kind parent_generation expected_level blocks page) (search (good, caller_answers, format_answers, page_kind_answers, identity_answers))
 
 pub content_answers : (kind : TreeKind) (blocks : ℕ) (page : List ℕ) → AnswersIn Disk (check_content kind blocks page)
 unfolding check_content validate_page_records
 content_answers kind blocks page = listed (content_demands kind blocks page) (passed_on Disk _ (records_answers _ _ _ _), (search good))
 
-page_answers : (reference : TreeRef) (uuid : List ℕ) (kind : TreeKind) (parent : ℕ) (expected : Option ℕ) (blocks : ℕ) (page : List ℕ) → Answers (decode_page reference uuid kind parent expected blocks page)
+page_answers : (reference : TreeRef) (uuid : List ℕ) (kind : TreeKind) (parent_generation : ℕ) (expected_level : Option ℕ) (blocks : ℕ) (page : List ℕ) → Answers (decode_page reference uuid kind parent_generation expected_level blocks page)
 unfolding decode_page
-page_answers reference uuid kind parent expected blocks page =
-    valued (accepted_page page) (page_demands reference uuid kind parent expected blocks page) (search (good, header_answers, content_answers))
+page_answers reference uuid kind parent_generation expected_level blocks page =
+    valued (accepted_page page) (page_demands reference uuid kind parent_generation expected_level blocks page) (search (good, header_answers, content_answers))
 
-verified_answers : (reference : TreeRef) (uuid : List ℕ) (kind : TreeKind) (parent : ℕ) (expected : Option ℕ) (page : List ℕ) → Answers (verified_page_view reference uuid kind parent expected page)
+verified_answers : (reference : TreeRef) (uuid : List ℕ) (kind : TreeKind) (parent_generation : ℕ) (expected_level : Option ℕ) (page : List ℕ) → Answers (verified_page_view reference uuid kind parent_generation expected_level page)
 unfolding verified_page_view
-verified_answers reference uuid kind parent expected page = valued (accepted_page page) (verified_demands reference uuid kind parent expected page) (search good)
+verified_answers reference uuid kind parent_generation expected_level page = valued (accepted_page page) (verified_demands reference uuid kind parent_generation expected_level page) (search good)
 
 draft_answers : (page : List ℕ) → Answers (draft_page_view page)
 unfolding draft_page_view

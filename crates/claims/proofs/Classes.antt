@@ -102,35 +102,35 @@ module _ (cs : List ℕ) (passed : is_one_of 0 cs ≡ true) (three : is_one_of 3
     uuid_in uuid = checks (_ ∷ []) (two, tt)
 
     -- ---- section 4
-    caller_in : (reference : TreeRef) (uuid : List ℕ) (kind : TreeKind) (parent : ℕ) (expected : Option ℕ) (blocks : ℕ) (page : List ℕ) → Within cs (check_caller reference uuid kind parent expected blocks page)
+    caller_in : (reference : TreeRef) (uuid : List ℕ) (kind : TreeKind) (parent_generation : ℕ) (expected_level : Option ℕ) (blocks : ℕ) (page : List ℕ) → Within cs (check_caller reference uuid kind parent_generation expected_level blocks page)
     unfolding check_caller
-    caller_in reference uuid kind parent expected blocks page =
-        checks (caller_demands reference uuid kind parent expected blocks page)
+    caller_in reference uuid kind parent_generation expected_level blocks page =
+        checks (caller_demands reference uuid kind parent_generation expected_level blocks page)
         (three, (kept (blocks_in blocks), (kept (page_ref_in reference kind blocks), (kept (uuid_in uuid), (two, (two, tt))))))
 
     format_in : (page : List ℕ) → Within cs (check_format page)
     unfolding check_format
     format_in page = checks (format_demands page) (three, (three, (four, (four, tt))))
 
-    kind_in : (kind : TreeKind) (expected : Option ℕ) (page : List ℕ) → Within cs (check_kind kind expected page)
+    kind_in : (kind : TreeKind) (expected_level : Option ℕ) (page : List ℕ) → Within cs (check_kind kind expected_level page)
     unfolding check_kind
-    kind_in kind expected page = checks (kind_demands kind expected page) (three, (three, (three, (three, (three, (three, tt))))))
+    kind_in kind expected_level page = checks (kind_demands kind expected_level page) (three, (three, (three, (three, (three, (three, tt))))))
 
-    identity_in : (reference : TreeRef) (uuid : List ℕ) (kind : TreeKind) (parent blocks : ℕ) (page : List ℕ) → Within cs (check_identity reference uuid kind parent blocks page)
+    identity_in : (reference : TreeRef) (uuid : List ℕ) (kind : TreeKind) (parent_generation blocks : ℕ) (page : List ℕ) → Within cs (check_identity reference uuid kind parent_generation blocks page)
     unfolding check_identity
-    identity_in reference uuid kind parent blocks page = checks (identity_demands reference uuid kind parent blocks page) (three, (three, (three, (three, (three, tt)))))
+    identity_in reference uuid kind parent_generation blocks page = checks (identity_demands reference uuid kind parent_generation blocks page) (three, (three, (three, (three, (three, tt)))))
 
-    header_in : (reference : TreeRef) (uuid : List ℕ) (kind : TreeKind) (parent : ℕ) (expected : Option ℕ) (blocks : ℕ) (page : List ℕ) → Within cs (validate_page_header reference uuid kind parent expected blocks page)
+    header_in : (reference : TreeRef) (uuid : List ℕ) (kind : TreeKind) (parent_generation : ℕ) (expected_level : Option ℕ) (blocks : ℕ) (page : List ℕ) → Within cs (validate_page_header reference uuid kind parent_generation expected_level blocks page)
     unfolding validate_page_header
-    header_in reference uuid kind parent expected blocks page =
-        checks (header_demands reference uuid kind parent expected blocks page)
-        (kept (caller_in reference uuid kind parent expected blocks page), (kept (format_in page), (kept (kind_in kind expected page), (kept (identity_in reference uuid kind parent blocks page), tt))))
+    header_in reference uuid kind parent_generation expected_level blocks page =
+        checks (header_demands reference uuid kind parent_generation expected_level blocks page)
+        (kept (caller_in reference uuid kind parent_generation expected_level blocks page), (kept (format_in page), (kept (kind_in kind expected_level page), (kept (identity_in reference uuid kind parent_generation blocks page), tt))))
 
-    page_in : (reference : TreeRef) (uuid : List ℕ) (kind : TreeKind) (parent : ℕ) (expected : Option ℕ) (blocks : ℕ) (page : List ℕ) → Within cs (decode_page reference uuid kind parent expected blocks page)
+    page_in : (reference : TreeRef) (uuid : List ℕ) (kind : TreeKind) (parent_generation : ℕ) (expected_level : Option ℕ) (blocks : ℕ) (page : List ℕ) → Within cs (decode_page reference uuid kind parent_generation expected_level blocks page)
     unfolding decode_page
-    page_in reference uuid kind parent expected blocks page =
-        value (accepted_page page) (page_demands reference uuid kind parent expected blocks page)
-        (kept (header_in reference uuid kind parent expected blocks page), (kept (disk (content_answers kind blocks page)), tt))
+    page_in reference uuid kind parent_generation expected_level blocks page =
+        value (accepted_page page) (page_demands reference uuid kind parent_generation expected_level blocks page)
+        (kept (header_in reference uuid kind parent_generation expected_level blocks page), (kept (disk (content_answers kind blocks page)), tt))
 
     -- ---- section 3
     envelope_in : (s : List ℕ) → Within cs (check_envelope s)
@@ -195,9 +195,9 @@ unit_in uuid object unit valid =
 pub classes : Classes
 classes = record {
   root = λ s slot blocks. (decoded_in s slot blocks).within;
-  choice = λ s slot blocks t place size.
-      (choice_in root_classes refl refl refl refl (supported_root (root_decode s slot blocks)) (supported_root (root_decode t place size)) (supported_root_in s slot blocks) (supported_root_in t place size)).within;
-  page = λ reference uuid kind parent expected blocks page. (page_in page_classes refl refl refl refl reference uuid kind parent expected blocks page).within;
+  choice = λ s slot blocks t slot₂ blocks₂.
+      (choice_in root_classes refl refl refl refl (supported_root (root_decode s slot blocks)) (supported_root (root_decode t slot₂ blocks₂)) (supported_root_in s slot blocks) (supported_root_in t slot₂ blocks₂)).within;
+  page = λ reference uuid kind parent_generation expected_level blocks page. (page_in page_classes refl refl refl refl reference uuid kind parent_generation expected_level blocks page).within;
   group = λ key value. (group_in group_classes refl refl key value).within;
   slot = λ g s. (slot_in group_classes refl refl g s).within;
   unit = unit_in;

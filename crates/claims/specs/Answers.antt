@@ -74,9 +74,9 @@ pub record Demand1 : Type 0 where
   pub supported : (d : Result Root Error) → Answers d → Answers (supported_root d)
   pub choice : (a b : Result (Option Root) Error) → Answers a → Answers b → Answers (choose_root a b)
   -- section 4: pages
-  pub header : (reference : TreeRef) (uuid : List ℕ) (kind : TreeKind) (parent : ℕ) (expected : Option ℕ) (blocks : ℕ) (page : List ℕ) → Answers (validate_page_header reference uuid kind parent expected blocks page)
-  pub page : (reference : TreeRef) (uuid : List ℕ) (kind : TreeKind) (parent : ℕ) (expected : Option ℕ) (blocks : ℕ) (page : List ℕ) → Answers (decode_page reference uuid kind parent expected blocks page)
-  pub verified : (reference : TreeRef) (uuid : List ℕ) (kind : TreeKind) (parent : ℕ) (expected : Option ℕ) (page : List ℕ) → Answers (verified_page_view reference uuid kind parent expected page)
+  pub header : (reference : TreeRef) (uuid : List ℕ) (kind : TreeKind) (parent_generation : ℕ) (expected_level : Option ℕ) (blocks : ℕ) (page : List ℕ) → Answers (validate_page_header reference uuid kind parent_generation expected_level blocks page)
+  pub page : (reference : TreeRef) (uuid : List ℕ) (kind : TreeKind) (parent_generation : ℕ) (expected_level : Option ℕ) (blocks : ℕ) (page : List ℕ) → Answers (decode_page reference uuid kind parent_generation expected_level blocks page)
+  pub verified : (reference : TreeRef) (uuid : List ℕ) (kind : TreeKind) (parent_generation : ℕ) (expected_level : Option ℕ) (page : List ℕ) → Answers (verified_page_view reference uuid kind parent_generation expected_level page)
   pub draft : (page : List ℕ) → Answers (draft_page_view page)
   -- section 5: owners, keys, times, targets, records of every kind, and the walk over them
   pub owner : (owner : ℕ) (mode : Validation) → AnswersIn mode (validate_owner_id owner mode)

@@ -30,8 +30,8 @@ unit_classes = 0 ∷ 2 ∷ []
 -- each call answers no class but these; a data unit's reason is 0
 pub record Classes : Type 0 where
   pub root : (s : List ℕ) (slot blocks : ℕ) → is_one_of (check_class (root_decode s slot blocks)) root_classes ≡ true
-  pub choice : (s : List ℕ) (slot blocks : ℕ) (t : List ℕ) (place size : ℕ) → is_one_of (check_class (choose_root (supported_root (root_decode s slot blocks)) (supported_root (root_decode t place size)))) root_classes ≡ true
-  pub page : (reference : TreeRef) (uuid : List ℕ) (kind : TreeKind) (parent : ℕ) (expected : Option ℕ) (blocks : ℕ) (page : List ℕ) → is_one_of (check_class (decode_page reference uuid kind parent expected blocks page)) page_classes ≡ true
+  pub choice : (s : List ℕ) (slot blocks : ℕ) (t : List ℕ) (slot₂ blocks₂ : ℕ) → is_one_of (check_class (choose_root (supported_root (root_decode s slot blocks)) (supported_root (root_decode t slot₂ blocks₂)))) root_classes ≡ true
+  pub page : (reference : TreeRef) (uuid : List ℕ) (kind : TreeKind) (parent_generation : ℕ) (expected_level : Option ℕ) (blocks : ℕ) (page : List ℕ) → is_one_of (check_class (decode_page reference uuid kind parent_generation expected_level blocks page)) page_classes ≡ true
   pub group : (key value : List ℕ) → is_one_of (check_class (validate_checksum_group key value Disk)) group_classes ≡ true
   pub slot : (g : List ℕ) (s : ℕ) → is_one_of (check_class (checksum_slot g s)) group_classes ≡ true
   pub unit : (uuid : List ℕ) (object unit : ℕ) (valid : List ℕ) → (is_one_of (check_class (data_unit_crc uuid object unit valid)) unit_classes ≡ true) × (check_reason (data_unit_crc uuid object unit valid) ≡ 0)

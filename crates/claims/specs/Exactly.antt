@@ -1,4 +1,4 @@
--- Demand 2: what the definitions accept, plainly and with no order in it, and nothing else.
+-- Demand 2: what the definitions accept, with no order in it, and nothing else: plainly, but for the kinds of records, by their lists of demands.
 use Rattle.std.specs.Prelude.{◌≡◌, true, ◌↔◌, List, ℕ}
 use Rattle.utf8.specs.Rfc3629.{Utf8}
 use Rattle.utf8.specs.Reading.{utf8}

@@ -12,7 +12,7 @@ polynomial = 0x82F63B78
 abbrev pub ones : ℕ
 ones = 0xFFFFFFFF
 
--- crc.rs, `CRC_TABLES`: the lowest bit leaves the register, and takes the polynomial with it if it is 1; a step of RFC 3720's division
+-- crc.rs, `CRC_TABLES` and the last line of `software_extend`: the lowest bit leaves the register, and takes the polynomial with it if it is 1; a step of RFC 3720's division
 unfoldable pub step_bit : ℕ → ℕ
 step_bit register = bit_xor (register / 2) (register % 2 * polynomial)
 

@@ -20,7 +20,7 @@ unfoldable pub data_unit : List ℕ → ℕ → ℕ → List ℕ → List ℕ
 data_unit uuid object unit valid =
     tag ++ uuid ++ little_bytes 8 object ++ little_bytes 8 unit ++ little_bytes 4 (length valid) ++ valid ++ replicate (unit_bytes - length valid) 0
 
--- the reason of a string that isn't in the list of reasons (crc.rs has one)
+-- the reason of a string that isn't in the list of reasons (crc.rs, `DataUnitCrc::new`; DECISIONS 17)
 abbrev pub unlisted : ℕ
 unlisted = 0
 

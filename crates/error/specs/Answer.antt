@@ -31,7 +31,7 @@ Check = Result Unit Error
 abbrev pub Number : Type 0
 Number = Result ℕ Error
 
--- 01, "Return classes": a check that passes answers class 0 and reason 0, whatever it gives
+-- 01, "Return classes": the class of a check's answer, 0 where it passed
 abbrev pub check_class : {A : Type 0} → Result A Error → ℕ
 check_class (Ok a) = 0
 check_class (Err e) = class_of e
@@ -46,12 +46,12 @@ abbrev pub number_check : Number → Check
 number_check (Ok n) = Ok tt
 number_check (Err e) = Err e
 
--- the number of an answer, 0 beside a refusal
+-- 01, "Return classes": the number of an answer, 0 beside a refusal
 abbrev pub number_of : Number → ℕ
 number_of (Ok n) = n
 number_of (Err e) = 0
 
--- `violation`: what a check of either mode refuses is class 2 in mode Input, class 3 in mode Disk (01, "Return classes")
+-- `violation`: what breaks a rule is class 2 in mode Input, class 3 in mode Disk (01, "Return classes"); but for a symlink target that is too long, catalog `too_long_of`
 abbrev pub violation_of : Validation → ℕ → Error
 violation_of Input reason = InvalidInput reason
 violation_of Disk reason = Corrupt reason

@@ -19,7 +19,7 @@ abbrev pub is_passed : {A : Type 0} → Result A Error → Bool
 is_passed (Ok a) = true
 is_passed (Err e) = false
 
--- the refusal of a check; of one that passed it is never asked
+-- the refusal of a check; of one that passed, a stand-in that `outcome` never answers
 abbrev pub refusal_of : {A : Type 0} → Result A Error → Error
 refusal_of (Ok a) = UnsupportedFormat
 refusal_of (Err e) = e

@@ -11,30 +11,30 @@ use Rattle.octets.specs.Bytes.{bit_set, padded_to}
 use Rattle.octets.specs.Number.{u32_at, big_at, within}
 use Rattle.group.specs.Slots.{Slot}
 
--- slot s is present if bit s % 8 of byte s / 8 is set
+-- 01, section 6: slot s is present if bit s % 8 of byte s / 8 is set
 abbrev pub present : List ℕ → ℕ → Bool
 present g s = bit_set g s
 
--- its word is the u32 at 32 + 4 s
+-- 01, "What demand 3 compares": its word is the u32 at 32 + 4 s
 abbrev pub word : List ℕ → ℕ → ℕ
 word g s = u32_at g (32 + 4 * s)
 
--- the slots of a stored group: through the last present one
+-- 01, section 6: the slots of a stored group: through the last present one
 unfoldable pub stored_slots : List ℕ → ℕ
 stored_slots g = through (present g) 256
 
--- how many bytes a stored group has: the bitmap and the words of those slots
+-- 01, section 6: how many bytes a stored group has: the bitmap and the words of those slots
 abbrev pub stored_bytes : List ℕ → ℕ
 stored_bytes g = 32 + 4 * stored_slots g
 
--- `checksum_slot`: there are 256 slots, the bitmap is whole, and a present slot's word lies within the group
+-- `checksum_slot`, READING-RULES 10: there are 256 slots, the bitmap is whole, and a present slot's word lies within the group
 abbrev pub slot_demands : List ℕ → ℕ → List Demand
 slot_demands g s =
     (ltb s 256 && leb 32 (length g)) otherwise Corrupt reason.checksum_group_slot
     ∷ (not (present g s) || within g (32 + 4 * s) 4) otherwise Corrupt reason.checksum_group_slot
     ∷ []
 
--- `checksum_slot`: the first that fails answers; else the word of a present slot, or that it is a hole
+-- 01, "Return classes": the first that fails answers; else the word of a present slot, or that it is a hole
 unfoldable pub checksum_slot : List ℕ → ℕ → Slot
 checksum_slot g s = outcome (slot_demands g s) (Ok (cond (present g s) (Some (word g s)) None))
 
@@ -46,19 +46,19 @@ compact_bytes g = cond (eqb (length g) 1056) (stored_bytes g) 0
 abbrev pub expand_group : List ℕ → List ℕ
 expand_group value = padded_to 1056 value
 
--- a whole bitmap, then 1 to 256 whole words
+-- `validate_checksum_group`, READING-RULES 10: a whole bitmap, then 1 to 256 whole words
 unfoldable pub right_size : ℕ → Bool
 right_size n = leb 36 n && leb n 1056 && eqb ((n - 32) % 4) 0
 
--- a stored group ends at its last present slot
+-- 01, section 6: a stored group ends at its last present slot
 unfoldable pub is_compact : List ℕ → Bool
 is_compact value = eqb (length value) (stored_bytes value)
 
--- a slot is present, or its word is 0
+-- 01, section 6: a slot is present, or its word is 0
 abbrev pub hole_zero : List ℕ → ℕ → Bool
 hole_zero g s = present g s || eqb (word g s) 0
 
--- a stored group holds zero in each hole
+-- 01, section 6: a stored group holds zero in each hole
 unfoldable pub holes_zero : List ℕ → Bool
 holes_zero value = every (hole_zero value) (stored_slots value)
 

@@ -75,4 +75,4 @@ handed_of (Err e) page key entries = Err e
 
 -- the page that is asked for, and the key looked up in it
 abbrev pub hand_out : TreeRef → List ℕ → TreeKind → ℕ → Option ℕ → ℕ → List ℕ → List ℕ → ℕ → Result Handed Error
-hand_out reference uuid kind parent expected blocks page key entries = handed_of (decode_page reference uuid kind parent expected blocks page) page key entries
+hand_out reference uuid kind parent_generation expected_level blocks page key entries = handed_of (decode_page reference uuid kind parent_generation expected_level blocks page) page key entries

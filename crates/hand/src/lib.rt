@@ -73,16 +73,24 @@ pub fn hand_out(
     reference: TreeRef,
     uuid: &[u8; 16],
     kind: TreeKind,
-    parent: u64,
-    expected: Option<u8>,
+    parent_generation: u64,
+    expected_level: Option<u8>,
     blocks: u64,
     key: &[u8],
     offsets: &mut [u16],
 ) -> Result<Handed, Error>
-    ensures handed { result ≡ hand_out reference uuid.now kind parent expected blocks page.now key.now (length offsets.old) }
-    ensures scratch { offsets.new ≡ scratch_in (decode_page reference uuid.now kind parent expected blocks page.now) page.now offsets.old }
+    ensures handed { result ≡ hand_out reference uuid.now kind parent_generation expected_level blocks page.now key.now (length offsets.old) }
+    ensures scratch { offsets.new ≡ scratch_in (decode_page reference uuid.now kind parent_generation expected_level blocks page.now) page.now offsets.old }
 {
-    let view = page::decode_page(page, reference, uuid, kind, parent, expected, blocks)?;
+    let view = page::decode_page(
+        page,
+        reference,
+        uuid,
+        kind,
+        parent_generation,
+        expected_level,
+        blocks,
+    )?;
     let first = lookup_first(view, key, offsets);
     Ok(Handed {
         level: view.level,

@@ -10,7 +10,7 @@ use Rattle.lookup.specs.declared.Step.{Step}
 abbrev pub next_offset : List ℕ → ℕ → ℕ
 next_offset part p = p + size_of (split_record (drop p part))
 
--- what is written into the scratch for n records from the one at p on: their offsets; a broken record's is the last written
+-- 01, section 7: what is written into the scratch for n records from the one at p on: their offsets; a broken record's is the last written
 unfoldable pub written : List ℕ → ℕ → ℕ → List ℕ
 written part zero p = []
 written part (suc n) p = p ∷ cond (is_record (split_record (drop p part))) (written part n (next_offset part p)) []
@@ -24,7 +24,7 @@ unbroken part (suc n) p = is_record (split_record (drop p part)) && unbroken par
 abbrev pub over : List ℕ → List ℕ → List ℕ
 over ws scratch = ws ++ drop (length ws) scratch
 
--- the record at p is above the sought key, or broken
+-- 01, section 7: the record at p is above the sought key, or broken
 abbrev pub above_at : List ℕ → List ℕ → ℕ → Bool
 above_at part key p = is_above (look_at (drop p part) key)
 
@@ -45,23 +45,23 @@ unfoldable pub walk_floor : List ℕ → List ℕ → ℕ → ℕ → ℕ → Op
 walk_floor part key zero p i found = found
 walk_floor part key (suc n) p i found = cond (above_at part key p) found (walk_floor part key n (next_offset part p) (i + 1) (Some (record { index = i; offset = p })))
 
--- the answer, lent a scratch of so many entries. A part above 65,535 bytes gives none; a scratch shorter than the count, the walk; records that break in the filling, none
+-- 01, section 7: the answer, lent a scratch of so many entries. A part above 65,535 bytes gives none; a scratch shorter than the count, the walk; records that break in the filling, none
 unfoldable pub floor_at : List ℕ → ℕ → List ℕ → ℕ → Option Floor
 floor_at part count key entries =
     cond (ltb 65535 (length part)) None
     (cond (ltb entries count) (walk_floor part key count 0 0 None)
     (cond (unbroken part count 0) (before (written part count 0) (bisect part key (written part count 0) count 0 count)) None))
 
--- the scratch at the end: untouched in the first two cases, otherwise its first count entries become the records' offsets
+-- 01, section 7: the scratch at the end: untouched in the first two cases, otherwise its first count entries become the records' offsets, or, where a record is broken, only those up to it
 unfoldable pub scratch_of : List ℕ → ℕ → List ℕ → List ℕ
 scratch_of part count scratch = cond (ltb 65535 (length part)) scratch (cond (ltb (length scratch) count) scratch (over (written part count 0) scratch))
 
--- the answer: the record's index, how many records there are from it on, and where these start and end in the part; none where no record is found
+-- 01, section 7: the answer: the record's index, how many records there are from it on, and where these start and end in the part; none where no record is found
 abbrev pub answer_of : ℕ → ℕ → Option Floor → Option Answer
 answer_of len count (Some f) = Some (record { index = f.index; remaining = count - f.index; from = f.offset; end = len })
 answer_of len count None = None
 
--- the lookup's answer on a part with so many records, lent a scratch of so many entries
+-- 01, section 7: the lookup's answer on a part with so many records, lent a scratch of so many entries
 abbrev pub floor_answer : List ℕ → ℕ → List ℕ → ℕ → Option Answer
 floor_answer part count key entries = answer_of (length part) count (floor_at part count key entries)
 

@@ -13,7 +13,7 @@ key_len s = u16_at s 0
 abbrev pub value_len : List ℕ → ℕ
 value_len s = u16_at s 2
 
--- how many bytes it takes, the four of the two lengths among them
+-- 01, section 5: how many bytes it takes, the four of the two lengths among them
 abbrev pub record_len : List ℕ → ℕ
 record_len s = 4 + key_len s + value_len s
 

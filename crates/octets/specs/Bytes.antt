@@ -54,7 +54,7 @@ same_bytes (x ∷ xs) (y ∷ ys) = eqb x y && same_bytes xs ys
 abbrev pub starts_with : List ℕ → List ℕ → Bool
 starts_with s text = same_bytes (take (length text) s) text
 
--- bit k of a byte, 1 or 0
+-- READING-RULES 2: bit k of a byte, 1 or 0
 abbrev pub bit : ℕ → ℕ → ℕ
 bit byte k = byte / 2 ^ k % 2
 

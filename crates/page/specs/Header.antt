@@ -63,18 +63,18 @@ is_level (Some n) = leb n 7
 
 -- `validate_page_header`, READING-RULES 7.2: what is asked of the caller's part, in order
 abbrev pub caller_demands : TreeRef → List ℕ → TreeKind → ℕ → Option ℕ → ℕ → List ℕ → List Demand
-caller_demands reference uuid kind parent expected blocks page =
+caller_demands reference uuid kind parent_generation expected_level blocks page =
     eqb (length page) 4096 otherwise Corrupt reason.page_length
     ∷ passing (validate_blocks blocks Input)
     ∷ passing (validate_page_ref reference kind blocks Input)
     ∷ passing (validate_uuid uuid Input)
-    ∷ (not (eqb parent 0) && leb reference.generation parent) otherwise InvalidInput reason.invalid_parent_generation
-    ∷ is_level expected otherwise InvalidInput reason.invalid_expected_page_level
+    ∷ (not (eqb parent_generation 0) && leb reference.generation parent_generation) otherwise InvalidInput reason.invalid_parent_generation
+    ∷ is_level expected_level otherwise InvalidInput reason.invalid_expected_page_level
     ∷ []
 
 -- 01, "Return classes": the first that fails answers
 unfoldable pub check_caller : TreeRef → List ℕ → TreeKind → ℕ → Option ℕ → ℕ → List ℕ → Check
-check_caller reference uuid kind parent expected blocks page = demands (caller_demands reference uuid kind parent expected blocks page)
+check_caller reference uuid kind parent_generation expected_level blocks page = demands (caller_demands reference uuid kind parent_generation expected_level blocks page)
 
 -- ---- the stored part
 
@@ -123,23 +123,23 @@ is_of_tree kind page = eqb (tree_kind page) (tree_kind_value kind)
 
 -- `validate_page_header`, READING-RULES 7.2: what is asked of kinds, level and reserved bytes, in order
 abbrev pub kind_demands : TreeKind → Option ℕ → List ℕ → List Demand
-kind_demands kind expected page =
+kind_demands kind expected_level page =
     is_page_kind page otherwise Corrupt reason.page_kind
     ∷ is_tree_kind page otherwise Corrupt reason.page_tree_kind
     ∷ is_of_tree kind page otherwise Corrupt reason.page_tree_kind_mismatch
     ∷ level_fits page otherwise Corrupt reason.page_level
-    ∷ is_expected expected page otherwise Corrupt reason.unexpected_page_level
+    ∷ is_expected expected_level page otherwise Corrupt reason.unexpected_page_level
     ∷ reserved_zero page otherwise Corrupt reason.page_reserved_bytes
     ∷ []
 
 -- 01, "Return classes": the first that fails answers
 unfoldable pub check_kind : TreeKind → Option ℕ → List ℕ → Check
-check_kind kind expected page = demands (kind_demands kind expected page)
+check_kind kind expected_level page = demands (kind_demands kind expected_level page)
 
 -- `validate_page_header`, READING-RULES 7.2: the page is the one that the reference names, and not newer than its parent
 unfoldable pub is_referred : TreeRef → ℕ → List ℕ → Bool
-is_referred reference parent page =
-    eqb (self_block page) reference.block && (eqb (generation page) reference.generation && leb (generation page) parent)
+is_referred reference parent_generation page =
+    eqb (self_block page) reference.block && (eqb (generation page) reference.generation && leb (generation page) parent_generation)
 
 -- section 4: UUID at 40, the one that is asked for
 unfoldable pub has_uuid : List ℕ → List ℕ → Bool
@@ -154,8 +154,8 @@ total_allowed TreeKind.Workspace page = eqb (total page) 0
 
 -- `validate_page_header`, READING-RULES 7.2: what is asked of the page's identity and numbers, in order
 abbrev pub identity_demands : TreeRef → List ℕ → TreeKind → ℕ → ℕ → List ℕ → List Demand
-identity_demands reference uuid kind parent blocks page =
-    is_referred reference parent page otherwise Corrupt reason.page_identity_or_generation
+identity_demands reference uuid kind parent_generation blocks page =
+    is_referred reference parent_generation page otherwise Corrupt reason.page_identity_or_generation
     ∷ has_uuid uuid page otherwise Corrupt reason.page_uuid
     ∷ leb (payload_length page) 4016 otherwise Corrupt reason.page_payload_length
     ∷ leb (total page) blocks otherwise Corrupt reason.page_data_block_total
@@ -164,19 +164,19 @@ identity_demands reference uuid kind parent blocks page =
 
 -- 01, "Return classes": the first that fails answers
 unfoldable pub check_identity : TreeRef → List ℕ → TreeKind → ℕ → ℕ → List ℕ → Check
-check_identity reference uuid kind parent blocks page = demands (identity_demands reference uuid kind parent blocks page)
+check_identity reference uuid kind parent_generation blocks page = demands (identity_demands reference uuid kind parent_generation blocks page)
 
 -- ---- the header
 
 -- `validate_page_header`, READING-RULES 7.2: all checks of the header, group by group, in order
 abbrev pub header_demands : TreeRef → List ℕ → TreeKind → ℕ → Option ℕ → ℕ → List ℕ → List Demand
-header_demands reference uuid kind parent expected blocks page =
-    passing (check_caller reference uuid kind parent expected blocks page)
+header_demands reference uuid kind parent_generation expected_level blocks page =
+    passing (check_caller reference uuid kind parent_generation expected_level blocks page)
     ∷ passing (check_format page)
-    ∷ passing (check_kind kind expected page)
-    ∷ passing (check_identity reference uuid kind parent blocks page)
+    ∷ passing (check_kind kind expected_level page)
+    ∷ passing (check_identity reference uuid kind parent_generation blocks page)
     ∷ []
 
 -- 01, "Return classes": the first that fails answers
 unfoldable pub validate_page_header : TreeRef → List ℕ → TreeKind → ℕ → Option ℕ → ℕ → List ℕ → Check
-validate_page_header reference uuid kind parent expected blocks page = demands (header_demands reference uuid kind parent expected blocks page)
+validate_page_header reference uuid kind parent_generation expected_level blocks page = demands (header_demands reference uuid kind parent_generation expected_level blocks page)

@@ -24,7 +24,7 @@ context kind blocks page = record {
   mode = Disk;
 }
 
--- the walk: lent the block from byte 80 on, it answers a leaf's total, 0 for an internal page
+-- `decode_page`, READING-RULES 8.2: the walk: lent the block from byte 80 on, it answers a leaf's total, 0 for an internal page
 unfoldable pub validate_page_records : TreeKind → ℕ → List ℕ → Number
 validate_page_records kind blocks page = validate_records (drop 80 page) (payload_length page) (count page) (context kind blocks page)
 
@@ -53,16 +53,16 @@ content_demands kind blocks page =
 unfoldable pub check_content : TreeKind → ℕ → List ℕ → Check
 check_content kind blocks page = demands (content_demands kind blocks page)
 
--- every check of `decode_page`, in its order
+-- READING-RULES 7.2: every check of `decode_page`, in its order
 abbrev pub page_demands : TreeRef → List ℕ → TreeKind → ℕ → Option ℕ → ℕ → List ℕ → List Demand
-page_demands reference uuid kind parent expected blocks page =
-    passing (validate_page_header reference uuid kind parent expected blocks page)
+page_demands reference uuid kind parent_generation expected_level blocks page =
+    passing (validate_page_header reference uuid kind parent_generation expected_level blocks page)
     ∷ passing (check_content kind blocks page)
     ∷ []
 
 -- 01, "Return classes": the first that fails answers
 unfoldable pub check_page : TreeRef → List ℕ → TreeKind → ℕ → Option ℕ → ℕ → List ℕ → Check
-check_page reference uuid kind parent expected blocks page = demands (page_demands reference uuid kind parent expected blocks page)
+check_page reference uuid kind parent_generation expected_level blocks page = demands (page_demands reference uuid kind parent_generation expected_level blocks page)
 
 -- ---- the answer in numbers
 
@@ -82,5 +82,5 @@ accepted_page page = stated_page page (total page)
 
 -- section 4: `decode_page`, in numbers: the refusal of the first check that fails, or what the page states
 unfoldable pub decode_page : TreeRef → List ℕ → TreeKind → ℕ → Option ℕ → ℕ → List ℕ → Result Page Error
-decode_page reference uuid kind parent expected blocks page =
-    outcome (page_demands reference uuid kind parent expected blocks page) (Ok (accepted_page page))
+decode_page reference uuid kind parent_generation expected_level blocks page =
+    outcome (page_demands reference uuid kind parent_generation expected_level blocks page) (Ok (accepted_page page))

@@ -13,23 +13,23 @@ use Rattle.page.specs.Page.{stated_page, accepted_page}
 
 -- `verified_page_view`, READING-RULES 7.3: the page is the one that is asked for
 unfoldable pub is_asked_for : TreeRef → List ℕ → TreeKind → ℕ → Option ℕ → List ℕ → Bool
-is_asked_for reference uuid kind parent expected page =
-    is_referred reference parent page
-    && (is_of_tree kind page && (is_expected expected page && has_uuid uuid page))
+is_asked_for reference uuid kind parent_generation expected_level page =
+    is_referred reference parent_generation page
+    && (is_of_tree kind page && (is_expected expected_level page && has_uuid uuid page))
 
 -- `verified_page_view`, READING-RULES 7.3: the Rust's order: the level's byte, the generation, identity, the payload; the other reads lie within these
 abbrev pub verified_demands : TreeRef → List ℕ → TreeKind → ℕ → Option ℕ → List ℕ → List Demand
-verified_demands reference uuid kind parent expected page =
+verified_demands reference uuid kind parent_generation expected_level page =
     within page 14 1 otherwise Corrupt reason.page_length
     ∷ within page 24 8 otherwise Corrupt reason.page_generation
-    ∷ is_asked_for reference uuid kind parent expected page otherwise Corrupt reason.page_identity_or_generation
+    ∷ is_asked_for reference uuid kind parent_generation expected_level page otherwise Corrupt reason.page_identity_or_generation
     ∷ within page 80 (payload_length page) otherwise Corrupt reason.page_payload_length
     ∷ []
 
 -- section 4: `verified_page_view`, in numbers
 unfoldable pub verified_page_view : TreeRef → List ℕ → TreeKind → ℕ → Option ℕ → List ℕ → Result Page Error
-verified_page_view reference uuid kind parent expected page =
-    outcome (verified_demands reference uuid kind parent expected page) (Ok (accepted_page page))
+verified_page_view reference uuid kind parent_generation expected_level page =
+    outcome (verified_demands reference uuid kind parent_generation expected_level page) (Ok (accepted_page page))
 
 -- `draft_page_view`, READING-RULES 7.3: a page that is still being built: its count, its payload length and its payload are there
 abbrev pub draft_demands : List ℕ → List Demand

@@ -9,10 +9,10 @@ use volume::{TreeKind, TreeRef};
 
 // A level that is expected, if any is, is at most 7.
 #[tactic(auto, unfolding(crate::specs::Header::is_level))]
-fn is_level(expected: Option<u8>) -> bool
-    ensures { result ≡ is_level expected }
+fn is_level(expected_level: Option<u8>) -> bool
+    ensures { result ≡ is_level expected_level }
 {
-    expected.is_none_or(|level| level <= 7)
+    expected_level.is_none_or(|level| level <= 7)
 }
 
 // The stored checksum is the one of the page, with its own four bytes as zero.
@@ -76,10 +76,10 @@ fn level_fits(page: &[u8]) -> bool
 
 // Whether the page's level is the one that is expected, if any is.
 #[tactic(auto, unfolding(crate::specs::Header::is_expected))]
-pub fn is_expected(expected: Option<u8>, page: &[u8]) -> bool
-    ensures { result ≡ is_expected expected page.now }
+pub fn is_expected(expected_level: Option<u8>, page: &[u8]) -> bool
+    ensures { result ≡ is_expected expected_level page.now }
 {
-    expected.is_none_or(|level| level == octets::byte_at(page, PageView::LEVEL_OFFSET))
+    expected_level.is_none_or(|level| level == octets::byte_at(page, PageView::LEVEL_OFFSET))
 }
 
 // The bytes that no field takes are zero.
@@ -106,13 +106,13 @@ pub fn is_of_tree(kind: TreeKind, page: &[u8]) -> bool
 
 // Whether the page is the one that the reference names, and not newer than its parent.
 #[tactic(auto, unfolding(crate::specs::Header::is_referred))]
-pub fn is_referred(reference: TreeRef, parent: u64, page: &[u8]) -> bool
-    ensures { result ≡ is_referred reference parent page.now }
+pub fn is_referred(reference: TreeRef, parent_generation: u64, page: &[u8]) -> bool
+    ensures { result ≡ is_referred reference parent_generation page.now }
 {
     let generation = octets::u64_at(page, PageView::GENERATION_OFFSET);
     octets::u64_at(page, PageView::SELF_BLOCK_OFFSET) == reference.block
         && generation == reference.generation
-        && generation <= parent
+        && generation <= parent_generation
 }
 
 // Whether the volume's UUID stands in the page.
@@ -141,15 +141,15 @@ pub(crate) struct Asked<'a> {
     pub reference: TreeRef,
     pub uuid: &'a [u8; 16],
     pub kind: TreeKind,
-    pub parent: u64,
-    pub expected: Option<u8>,
+    pub parent_generation: u64,
+    pub expected_level: Option<u8>,
 }
 
 impl Asked<'_> {
     // The checks of the caller's part.
     #[tactic(auto, unfolding(crate::specs::Header::check_caller, error::specs::Demand::outcome))]
     fn check_caller(self, blocks: u64, page: &[u8]) -> Result<(), Error>
-        ensures { result ≡ check_caller self.entry.reference self.entry.uuid.now self.entry.kind self.entry.parent self.entry.expected blocks page.now }
+        ensures { result ≡ check_caller self.entry.reference self.entry.uuid.now self.entry.kind self.entry.parent_generation self.entry.expected_level blocks page.now }
     {
         if page.len() != PageView::BYTES {
             return Err(Error::Corrupt(reason::PAGE_LENGTH));
@@ -157,10 +157,10 @@ impl Asked<'_> {
         volume::validate_blocks(blocks, Validation::Input)?;
         volume::validate_page_ref(self.reference, self.kind, blocks, Validation::Input)?;
         volume::validate_uuid(self.uuid, Validation::Input)?;
-        if self.parent == 0 || self.parent < self.reference.generation {
+        if self.parent_generation == 0 || self.parent_generation < self.reference.generation {
             return Err(Error::InvalidInput(reason::INVALID_PARENT_GENERATION));
         }
-        if !is_level(self.expected) {
+        if !is_level(self.expected_level) {
             return Err(Error::InvalidInput(reason::INVALID_EXPECTED_PAGE_LEVEL));
         }
         Ok(())
@@ -169,7 +169,7 @@ impl Asked<'_> {
     // Page kind, tree kind, level and reserved bytes.
     #[tactic(auto, unfolding(crate::specs::Header::check_kind, error::specs::Demand::outcome))]
     fn check_kind(self, page: &[u8]) -> Result<(), Error>
-        ensures { result ≡ check_kind self.entry.kind self.entry.expected page.now }
+        ensures { result ≡ check_kind self.entry.kind self.entry.expected_level page.now }
     {
         if !is_page_kind(page) {
             return Err(Error::Corrupt(reason::PAGE_KIND));
@@ -183,7 +183,7 @@ impl Asked<'_> {
         if !level_fits(page) {
             return Err(Error::Corrupt(reason::PAGE_LEVEL));
         }
-        if !is_expected(self.expected, page) {
+        if !is_expected(self.expected_level, page) {
             return Err(Error::Corrupt(reason::UNEXPECTED_PAGE_LEVEL));
         }
         if !reserved_zero(page) {
@@ -195,9 +195,9 @@ impl Asked<'_> {
     // Which page it is, and the numbers that it states.
     #[tactic(auto, unfolding(crate::specs::Header::check_identity, error::specs::Demand::outcome))]
     fn check_identity(self, blocks: u64, page: &[u8]) -> Result<(), Error>
-        ensures { result ≡ check_identity self.entry.reference self.entry.uuid.now self.entry.kind self.entry.parent blocks page.now }
+        ensures { result ≡ check_identity self.entry.reference self.entry.uuid.now self.entry.kind self.entry.parent_generation blocks page.now }
     {
-        if !is_referred(self.reference, self.parent, page) {
+        if !is_referred(self.reference, self.parent_generation, page) {
             return Err(Error::Corrupt(reason::PAGE_IDENTITY_OR_GENERATION));
         }
         if !has_uuid(self.uuid, page) {
@@ -220,7 +220,7 @@ impl Asked<'_> {
     // Every check of the header.
     #[tactic(auto, unfolding(crate::specs::Header::validate_page_header, error::specs::Demand::outcome))]
     pub fn validate_page_header(self, blocks: u64, page: &[u8]) -> Result<(), Error>
-        ensures { result ≡ validate_page_header self.entry.reference self.entry.uuid.now self.entry.kind self.entry.parent self.entry.expected blocks page.now }
+        ensures { result ≡ validate_page_header self.entry.reference self.entry.uuid.now self.entry.kind self.entry.parent_generation self.entry.expected_level blocks page.now }
     {
         self.check_caller(blocks, page)?;
         check_format(page)?;
@@ -231,11 +231,11 @@ impl Asked<'_> {
     // Whether the page is the one that is asked for, whatever else it holds.
     #[tactic(auto, unfolding(crate::specs::Unchecked::is_asked_for))]
     pub fn is_asked_for(self, page: &[u8]) -> bool
-        ensures { result ≡ is_asked_for self.entry.reference self.entry.uuid.now self.entry.kind self.entry.parent self.entry.expected page.now }
+        ensures { result ≡ is_asked_for self.entry.reference self.entry.uuid.now self.entry.kind self.entry.parent_generation self.entry.expected_level page.now }
     {
-        is_referred(self.reference, self.parent, page)
+        is_referred(self.reference, self.parent_generation, page)
             && is_of_tree(self.kind, page)
-            && is_expected(self.expected, page)
+            && is_expected(self.expected_level, page)
             && has_uuid(self.uuid, page)
     }
 }
@@ -245,19 +245,19 @@ pub fn validate_page_header(
     reference: TreeRef,
     uuid: &[u8; 16],
     kind: TreeKind,
-    parent: u64,
-    expected: Option<u8>,
+    parent_generation: u64,
+    expected_level: Option<u8>,
     blocks: u64,
     page: &[u8],
 ) -> Result<(), Error>
-    ensures { result ≡ validate_page_header reference uuid.now kind parent expected blocks page.now }
+    ensures { result ≡ validate_page_header reference uuid.now kind parent_generation expected_level blocks page.now }
 {
     let asked = Asked {
         reference,
         uuid,
         kind,
-        parent,
-        expected,
+        parent_generation,
+        expected_level,
     };
     asked.validate_page_header(blocks, page)
 }

@@ -137,13 +137,21 @@ pub fn page_answer(
     reference: TreeRef,
     uuid: &[u8; 16],
     kind: TreeKind,
-    parent: u64,
-    expected: Option<u8>,
+    parent_generation: u64,
+    expected_level: Option<u8>,
     blocks: u64,
 ) -> Result<Page, Error>
-    ensures { result ≡ decode_page reference uuid.now kind parent expected blocks page.now }
+    ensures { result ≡ decode_page reference uuid.now kind parent_generation expected_level blocks page.now }
 {
-    header::validate_page_header(reference, uuid, kind, parent, expected, blocks, page)?;
+    header::validate_page_header(
+        reference,
+        uuid,
+        kind,
+        parent_generation,
+        expected_level,
+        blocks,
+        page,
+    )?;
     check_content(kind, blocks, page)?;
     Ok(accepted_page(page))
 }
@@ -162,10 +170,10 @@ pub fn verified_answer(
     reference: TreeRef,
     uuid: &[u8; 16],
     kind: TreeKind,
-    parent: u64,
-    expected: Option<u8>,
+    parent_generation: u64,
+    expected_level: Option<u8>,
 ) -> Result<Page, Error>
-    ensures { result ≡ verified_page_view reference uuid.now kind parent expected page.now }
+    ensures { result ≡ verified_page_view reference uuid.now kind parent_generation expected_level page.now }
 {
     if page.len() < PageView::LEVEL_OFFSET + 1 {
         return Err(Error::Corrupt(reason::PAGE_LENGTH));
@@ -177,8 +185,8 @@ pub fn verified_answer(
         reference,
         uuid,
         kind,
-        parent,
-        expected,
+        parent_generation,
+        expected_level,
     };
     if !asked.is_asked_for(page) {
         return Err(Error::Corrupt(reason::PAGE_IDENTITY_OR_GENERATION));
@@ -212,13 +220,21 @@ pub fn decode_page<'a>(
     reference: TreeRef,
     uuid: &[u8; 16],
     kind: TreeKind,
-    parent: u64,
-    expected: Option<u8>,
+    parent_generation: u64,
+    expected_level: Option<u8>,
     blocks: u64,
 ) -> Result<PageView<'a>, Error>
-    ensures { Views page.entry (decode_page reference uuid.now kind parent expected blocks page.now) result }
+    ensures { Views page.entry (decode_page reference uuid.now kind parent_generation expected_level blocks page.now) result }
 {
-    let answer = page_answer(page, reference, uuid, kind, parent, expected, blocks)?;
+    let answer = page_answer(
+        page,
+        reference,
+        uuid,
+        kind,
+        parent_generation,
+        expected_level,
+        blocks,
+    )?;
     Ok(view::view_of(page, answer))
 }
 
@@ -228,12 +244,19 @@ pub fn verified_page_view<'a>(
     reference: TreeRef,
     uuid: &[u8; 16],
     kind: TreeKind,
-    parent: u64,
-    expected: Option<u8>,
+    parent_generation: u64,
+    expected_level: Option<u8>,
 ) -> Result<PageView<'a>, Error>
-    ensures { Views page.entry (verified_page_view reference uuid.now kind parent expected page.now) result }
+    ensures { Views page.entry (verified_page_view reference uuid.now kind parent_generation expected_level page.now) result }
 {
-    let answer = verified_answer(page, reference, uuid, kind, parent, expected)?;
+    let answer = verified_answer(
+        page,
+        reference,
+        uuid,
+        kind,
+        parent_generation,
+        expected_level,
+    )?;
     Ok(view::view_of(page, answer))
 }
 

@@ -38,29 +38,29 @@ unasked n m b h = go (eqb n m) refl
 
 -- ---- from the chain to the rules
 
-module _ (reference : TreeRef) (uuid : List ℕ) (kind : TreeKind) (parent : ℕ) (expected : Option ℕ) (blocks : ℕ) (page : List ℕ) where
-  caller_holds : check_caller reference uuid kind parent expected blocks page ≡ Ok tt → CallerHolds reference uuid kind parent expected blocks page
+module _ (reference : TreeRef) (uuid : List ℕ) (kind : TreeKind) (parent_generation : ℕ) (expected_level : Option ℕ) (blocks : ℕ) (page : List ℕ) where
+  caller_holds : check_caller reference uuid kind parent_generation expected_level blocks page ≡ Ok tt → CallerHolds reference uuid kind parent_generation expected_level blocks page
   unfolding check_caller
   caller_holds e =
-      let h = all_hold (caller_demands reference uuid kind parent expected blocks page) e in
+      let h = all_hold (caller_demands reference uuid kind parent_generation expected_level blocks page) e in
       let p = h.1.1.1.1.0 in
       record {
         size = eqb-true (length page) 4096 h.0;
         range = passed_is (validate_blocks blocks Input) h.1.0;
         place = passed_is (validate_page_ref reference kind blocks Input) h.1.1.0;
         volume = passed_is (validate_uuid uuid Input) h.1.1.1.0;
-        parent_given = given (and_left (not (eqb parent 0)) (leb reference.generation parent) p);
-        not_newer = leb-true reference.generation parent (and_right (not (eqb parent 0)) (leb reference.generation parent) p);
+        parent_given = given (and_left (not (eqb parent_generation 0)) (leb reference.generation parent_generation) p);
+        not_newer = leb-true reference.generation parent_generation (and_right (not (eqb parent_generation 0)) (leb reference.generation parent_generation) p);
         level_known = h.1.1.1.1.1.0;
       }
     where
-      given : not (eqb parent 0) ≡ true → parent ≡ 0 → ⊥
-      given t z = let n : false ≡ true = rw (eq-eqb parent 0 z) at t in let k : ◌≡◌ {A = ℕ} 0 1 = cc in omega arith
+      given : not (eqb parent_generation 0) ≡ true → parent_generation ≡ 0 → ⊥
+      given t z = let n : false ≡ true = rw (eq-eqb parent_generation 0 z) at t in let k : ◌≡◌ {A = ℕ} 0 1 = cc in omega arith
 
-  caller_passes : CallerHolds reference uuid kind parent expected blocks page → check_caller reference uuid kind parent expected blocks page ≡ Ok tt
+  caller_passes : CallerHolds reference uuid kind parent_generation expected_level blocks page → check_caller reference uuid kind parent_generation expected_level blocks page ≡ Ok tt
   unfolding check_caller
   caller_passes h =
-      all_pass (caller_demands reference uuid kind parent expected blocks page) (
+      all_pass (caller_demands reference uuid kind parent_generation expected_level blocks page) (
         eq-eqb (length page) 4096 h.size,
         (
           passed_test (validate_blocks blocks Input) tt h.range,
@@ -69,7 +69,7 @@ module _ (reference : TreeRef) (uuid : List ℕ) (kind : TreeKind) (parent : ℕ
             (
               passed_test (validate_uuid uuid Input) tt h.volume,
               (
-                and_both (not (eqb parent 0)) (leb reference.generation parent) (not_yes (eqb parent 0) (ne_eqb parent 0 h.parent_given)) (le-leb reference.generation parent h.not_newer),
+                and_both (not (eqb parent_generation 0)) (leb reference.generation parent_generation) (not_yes (eqb parent_generation 0) (ne_eqb parent_generation 0 h.parent_given)) (le-leb reference.generation parent_generation h.not_newer),
                 (h.level_known, tt),
               ),
             ),
@@ -77,12 +77,12 @@ module _ (reference : TreeRef) (uuid : List ℕ) (kind : TreeKind) (parent : ℕ
         ),
       )
 
-  header_holds : check_format page ≡ Ok tt → check_kind kind expected page ≡ Ok tt → check_identity reference uuid kind parent blocks page ≡ Ok tt → HeaderHolds reference uuid kind parent expected blocks page
+  header_holds : check_format page ≡ Ok tt → check_kind kind expected_level page ≡ Ok tt → check_identity reference uuid kind parent_generation blocks page ≡ Ok tt → HeaderHolds reference uuid kind parent_generation expected_level blocks page
   unfolding check_format check_kind check_identity checksum_fits is_page_kind level_fits reserved_zero is_of_tree is_referred has_uuid
   header_holds fe ke ie =
       let f = all_hold (format_demands page) fe in
-      let k = all_hold (kind_demands kind expected page) ke in
-      let i = all_hold (identity_demands reference uuid kind parent blocks page) ie in
+      let k = all_hold (kind_demands kind expected_level page) ke in
+      let i = all_hold (identity_demands reference uuid kind parent_generation blocks page) ie in
       let leaf : Bool = not (eqb (page_kind page) 1) || eqb (level page) 0 in
       let range : Bool = leb 1 (level page) && leb (level page) 7 in
       let inner : Bool = not (eqb (page_kind page) 2) || range in
@@ -92,14 +92,14 @@ module _ (reference : TreeRef) (uuid : List ℕ) (kind : TreeKind) (parent : ℕ
       let z : (z15 && (z36 && z68)) ≡ true = k.1.1.1.1.1.0 in
       let b16 : Bool = eqb (self_block page) reference.block in
       let b24 : Bool = eqb (generation page) reference.generation in
-      let bp : Bool = leb (generation page) parent in
+      let bp : Bool = leb (generation page) parent_generation in
       record {
         checksum = eqb-true (crc32c_with_zero page 64 68) (u32_at page 64) f.0;
         magic_is = same_is (part page 0 8) magic f.1.0;
         revision = eqb-true (u16_at page 8) 1 f.1.1.0;
         flags = eqb-true (u16_at page 10) 0 f.1.1.1.0;
         kind_is = one_of (page_kind page) 1 2 k.0;
-        tree_kind_of = eqb-true (tree_kind page) (tree_kind_value kind) k.1.1.0;
+        tree_kind_is = eqb-true (tree_kind page) (tree_kind_value kind) k.1.1.0;
         leaf_level = λ p. eqb-true (level page) 0 (asked (page_kind page) 1 (eqb (level page) 0) (and_left leaf inner k.1.1.1.0) p);
         internal_level = λ p. let r = asked (page_kind page) 2 range (and_right leaf inner k.1.1.1.0) p in (leb-true 1 (level page) (and_left (leb 1 (level page)) (leb (level page) 7) r), leb-true (level page) 7 (and_right (leb 1 (level page)) (leb (level page) 7) r));
         level_is = k.1.1.1.1.0;
@@ -108,14 +108,14 @@ module _ (reference : TreeRef) (uuid : List ℕ) (kind : TreeKind) (parent : ℕ
         zero_68 = and_right z36 z68 (and_right z15 (z36 && z68) z);
         block = eqb-true (self_block page) reference.block (and_left b16 (b24 && bp) i.0);
         generation_is = eqb-true (generation page) reference.generation (and_left b24 bp (and_right b16 (b24 && bp) i.0));
-        parent_newer = leb-true (generation page) parent (and_right b24 bp (and_right b16 (b24 && bp) i.0));
+        parent_newer = leb-true (generation page) parent_generation (and_right b24 bp (and_right b16 (b24 && bp) i.0));
         uuid_is = same_is (part page 40 16) uuid i.1.0;
         payload_fits = leb-true (payload_length page) 4016 i.1.1.0;
         total_fits_in = leb-true (total page) blocks i.1.1.1.0;
         total_allowed_in = i.1.1.1.1.0;
       }
 
-  format_passes : HeaderHolds reference uuid kind parent expected blocks page → check_format page ≡ Ok tt
+  format_passes : HeaderHolds reference uuid kind parent_generation expected_level blocks page → check_format page ≡ Ok tt
   unfolding check_format checksum_fits
   format_passes h =
       all_pass (format_demands page) (
@@ -126,15 +126,15 @@ module _ (reference : TreeRef) (uuid : List ℕ) (kind : TreeKind) (parent : ℕ
         ),
       )
 
-  kind_passes : HeaderHolds reference uuid kind parent expected blocks page → check_kind kind expected page ≡ Ok tt
+  kind_passes : HeaderHolds reference uuid kind parent_generation expected_level blocks page → check_kind kind expected_level page ≡ Ok tt
   unfolding check_kind is_page_kind is_tree_kind level_fits reserved_zero is_of_tree
   kind_passes h =
-      all_pass (kind_demands kind expected page) (
+      all_pass (kind_demands kind expected_level page) (
         is_one_of_lem (page_kind page) 1 2 h.kind_is,
         (
-          numbered kind h.tree_kind_of,
+          numbered kind h.tree_kind_is,
           (
-            eq-eqb (tree_kind page) (tree_kind_value kind) h.tree_kind_of,
+            eq-eqb (tree_kind page) (tree_kind_value kind) h.tree_kind_is,
             (
               and_both (not (eqb (page_kind page) 1) || eqb (level page) 0) (not (eqb (page_kind page) 2) || (leb 1 (level page) && leb (level page) 7))
                   (unasked (page_kind page) 1 (eqb (level page) 0) (λ p. eq-eqb (level page) 0 (h.leaf_level p)))
@@ -154,13 +154,13 @@ module _ (reference : TreeRef) (uuid : List ℕ) (kind : TreeKind) (parent : ℕ
       numbered TreeKind.Cleanup e = rw e
       numbered TreeKind.Workspace e = rw e
 
-  identity_passes : HeaderHolds reference uuid kind parent expected blocks page → check_identity reference uuid kind parent blocks page ≡ Ok tt
+  identity_passes : HeaderHolds reference uuid kind parent_generation expected_level blocks page → check_identity reference uuid kind parent_generation blocks page ≡ Ok tt
   unfolding check_identity is_referred has_uuid
   identity_passes h =
-      all_pass (identity_demands reference uuid kind parent blocks page) (
-        and_both (eqb (self_block page) reference.block) (eqb (generation page) reference.generation && leb (generation page) parent)
+      all_pass (identity_demands reference uuid kind parent_generation blocks page) (
+        and_both (eqb (self_block page) reference.block) (eqb (generation page) reference.generation && leb (generation page) parent_generation)
             (eq-eqb (self_block page) reference.block h.block)
-            (and_both (eqb (generation page) reference.generation) (leb (generation page) parent) (eq-eqb (generation page) reference.generation h.generation_is) (le-leb (generation page) parent h.parent_newer)),
+            (and_both (eqb (generation page) reference.generation) (leb (generation page) parent_generation) (eq-eqb (generation page) reference.generation h.generation_is) (le-leb (generation page) parent_generation h.parent_newer)),
         (
           rw h.uuid_is (same_self uuid),
           (
@@ -195,29 +195,29 @@ module _ (reference : TreeRef) (uuid : List ℕ) (kind : TreeKind) (parent : ℕ
         ),
       )
 
-  pub page_holds : check_page reference uuid kind parent expected blocks page ≡ Ok tt → PageHolds reference uuid kind parent expected blocks page
+  pub page_holds : check_page reference uuid kind parent_generation expected_level blocks page ≡ Ok tt → PageHolds reference uuid kind parent_generation expected_level blocks page
   unfolding check_page validate_page_header
   page_holds e =
-      let h = all_hold (page_demands reference uuid kind parent expected blocks page) e in
-      let g = all_hold (header_demands reference uuid kind parent expected blocks page) (passed_is (validate_page_header reference uuid kind parent expected blocks page) h.0) in
+      let h = all_hold (page_demands reference uuid kind parent_generation expected_level blocks page) e in
+      let g = all_hold (header_demands reference uuid kind parent_generation expected_level blocks page) (passed_is (validate_page_header reference uuid kind parent_generation expected_level blocks page) h.0) in
       record {
-        caller = caller_holds (passed_is (check_caller reference uuid kind parent expected blocks page) g.0);
-        header = header_holds (passed_is (check_format page) g.1.0) (passed_is (check_kind kind expected page) g.1.1.0) (passed_is (check_identity reference uuid kind parent blocks page) g.1.1.1.0);
+        caller = caller_holds (passed_is (check_caller reference uuid kind parent_generation expected_level blocks page) g.0);
+        header = header_holds (passed_is (check_format page) g.1.0) (passed_is (check_kind kind expected_level page) g.1.1.0) (passed_is (check_identity reference uuid kind parent_generation blocks page) g.1.1.1.0);
         content = content_holds (passed_is (check_content kind blocks page) h.1.0);
       }
 
-  pub page_passes : PageHolds reference uuid kind parent expected blocks page → check_page reference uuid kind parent expected blocks page ≡ Ok tt
+  pub page_passes : PageHolds reference uuid kind parent_generation expected_level blocks page → check_page reference uuid kind parent_generation expected_level blocks page ≡ Ok tt
   unfolding check_page validate_page_header
   page_passes h =
-      all_pass (page_demands reference uuid kind parent expected blocks page) (
-        passed_test (validate_page_header reference uuid kind parent expected blocks page) tt
-            (all_pass (header_demands reference uuid kind parent expected blocks page) (
-              passed_test (check_caller reference uuid kind parent expected blocks page) tt (caller_passes h.caller),
+      all_pass (page_demands reference uuid kind parent_generation expected_level blocks page) (
+        passed_test (validate_page_header reference uuid kind parent_generation expected_level blocks page) tt
+            (all_pass (header_demands reference uuid kind parent_generation expected_level blocks page) (
+              passed_test (check_caller reference uuid kind parent_generation expected_level blocks page) tt (caller_passes h.caller),
               (
                 passed_test (check_format page) tt (format_passes h.header),
                 (
-                  passed_test (check_kind kind expected page) tt (kind_passes h.header),
-                  (passed_test (check_identity reference uuid kind parent blocks page) tt (identity_passes h.header), tt),
+                  passed_test (check_kind kind expected_level page) tt (kind_passes h.header),
+                  (passed_test (check_identity reference uuid kind parent_generation blocks page) tt (identity_passes h.header), tt),
                 ),
               ),
             )),
@@ -227,9 +227,9 @@ module _ (reference : TreeRef) (uuid : List ℕ) (kind : TreeKind) (parent : ℕ
 -- a page is answered with what it states exactly where all its checks pass
 pub page_exactly : PageExactly
 unfolding decode_page check_page
-page_exactly reference uuid kind parent expected blocks page answer =
-    let ds = page_demands reference uuid kind parent expected blocks page in
+page_exactly reference uuid kind parent_generation expected_level blocks page answer =
+    let ds = page_demands reference uuid kind parent_generation expected_level blocks page in
     let given = given_exactly ds (accepted_page page) answer in (
-      λ e. (page_holds reference uuid kind parent expected blocks page (all_pass ds (given.0 e).0), (given.0 e).1),
-      λ h. given.1 (all_hold ds (page_passes reference uuid kind parent expected blocks page h.0), h.1),
+      λ e. (page_holds reference uuid kind parent_generation expected_level blocks page (all_pass ds (given.0 e).0), (given.0 e).1),
+      λ h. given.1 (all_hold ds (page_passes reference uuid kind parent_generation expected_level blocks page h.0), h.1),
     )

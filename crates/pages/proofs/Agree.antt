@@ -45,13 +45,13 @@ read_of kind blocks page bytes e =
     (walk_reads (is_leaf c) c.mode (own_rules c) (drop 80 page) (payload_length page) (count page) (number_of (validate_page_records kind blocks page))
     (bytes_drop page 80 bytes) (value_is (validate_page_records kind blocks page) e)).read
 
-good : (reference : TreeRef) (uuid : List ℕ) (kind : TreeKind) (parent : ℕ) (expected : Option ℕ) (blocks : ℕ) (page : List ℕ) → Accepted reference uuid kind parent expected blocks page → Good reference uuid kind page
-good reference uuid kind parent expected blocks page a =
-    let holds = page_holds reference uuid kind parent expected blocks page a.passed in
+good : (reference : TreeRef) (uuid : List ℕ) (kind : TreeKind) (parent_generation : ℕ) (expected_level : Option ℕ) (blocks : ℕ) (page : List ℕ) → Accepted reference uuid kind parent_generation expected_level blocks page → Good reference uuid kind page
+good reference uuid kind parent_generation expected_level blocks page a =
+    let holds = page_holds reference uuid kind parent_generation expected_level blocks page a.passed in
     record {
       bytes = a.bytes;
-      parent = parent;
-      expected = expected;
+      parent_generation = parent_generation;
+      expected_level = expected_level;
       blocks = blocks;
       holds = holds;
       reads = read_of kind blocks page a.bytes holds.content.records;
@@ -65,12 +65,12 @@ record Seen (page : List ℕ) (v : PageView) : Type 0 where
   payload_is : v.payload.now ≡ part page 80 (payload_length page)
 
 -- the view that `decode_page` returns on an accepted page
-seen : (reference : TreeRef) (uuid : List ℕ) (kind : TreeKind) (parent : ℕ) (expected : Option ℕ) (blocks : ℕ) (page : Bor (List ℕ)) (v : PageView)
-    → Accepted reference uuid kind parent expected blocks page.now → Views page (decode_page reference uuid kind parent expected blocks page.now) (Ok v) → Seen page.now v
+seen : (reference : TreeRef) (uuid : List ℕ) (kind : TreeKind) (parent_generation : ℕ) (expected_level : Option ℕ) (blocks : ℕ) (page : Bor (List ℕ)) (v : PageView)
+    → Accepted reference uuid kind parent_generation expected_level blocks page.now → Views page (decode_page reference uuid kind parent_generation expected_level blocks page.now) (Ok v) → Seen page.now v
 unfolding decode_page check_page
-seen reference uuid kind parent expected blocks page v a views =
-    let ds = page_demands reference uuid kind parent expected blocks page.now in
-    let answered : decode_page reference uuid kind parent expected blocks page.now ≡ Ok (accepted_page page.now) = outcome_holds ds (Ok (accepted_page page.now)) (all_hold ds a.passed) in
+seen reference uuid kind parent_generation expected_level blocks page v a views =
+    let ds = page_demands reference uuid kind parent_generation expected_level blocks page.now in
+    let answered : decode_page reference uuid kind parent_generation expected_level blocks page.now ≡ Ok (accepted_page page.now) = outcome_holds ds (Ok (accepted_page page.now)) (all_hold ds a.passed) in
     let w : IsView page (accepted_page page.now) v = subst (λ (x : Result Page Error). Views page x (Ok v)) answered views in
     let width : 80 + payload_length page.now - 80 ≡ payload_length page.now = omega arith in
     record {

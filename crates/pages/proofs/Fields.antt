@@ -40,10 +40,10 @@ zeroed_page p e = zeroed_parts 64 68 p ∙ ap (λ (n : ℕ). parts (min 64 (min 
 -- a page that is accepted for a reference, a UUID and a tree kind, whatever the other arguments
 pub record Good (reference : TreeRef) (uuid : List ℕ) (kind : TreeKind) (page : List ℕ) : Type 0 where
   pub bytes : Bytes page
-  pub parent : ℕ
-  pub expected : Option ℕ
+  pub parent_generation : ℕ
+  pub expected_level : Option ℕ
   pub blocks : ℕ
-  pub holds : PageHolds reference uuid kind parent expected blocks page
+  pub holds : PageHolds reference uuid kind parent_generation expected_level blocks page
   pub reads : Read (part page 80 (payload_length page)) (count page)
 
 -- two such pages with the same level, total, count and payload
@@ -80,7 +80,7 @@ module _ (reference : TreeRef) (uuid : List ℕ) (kind : TreeKind) (p q : List �
       let s10 = grow p q 8 2 s8 (number 8 2 (omega arith) (a.revision ∙ sym b.revision)) in
       let s12 = grow p q 10 2 s10 (number 10 2 (omega arith) (a.flags ∙ sym b.flags)) in
       let s13 = grow p q 12 1 s12 (byte 12 (omega arith) (kind_p ∙ ap (λ (l : ℕ). cond (eqb l 0) 1 2) level_is ∙ sym kind_q)) in
-      let s14 = grow p q 13 1 s13 (byte 13 (omega arith) (a.tree_kind_of ∙ sym b.tree_kind_of)) in
+      let s14 = grow p q 13 1 s13 (byte 13 (omega arith) (a.tree_kind_is ∙ sym b.tree_kind_is)) in
       let s15 = grow p q 14 1 s14 (byte 14 (omega arith) level_is) in
       let s16 = grow p q 15 1 s15 (byte 15 (omega arith) (a.zero_15 ∙ sym b.zero_15)) in
       let s24 = grow p q 16 8 s16 (number 16 8 (omega arith) (a.block ∙ sym b.block)) in

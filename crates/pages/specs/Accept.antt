@@ -12,33 +12,33 @@ use Rattle.page.specs.declared.Page.{Page}
 use Rattle.page.specs.Header.{magic, page_kind, tree_kind, level, self_block, generation, count, payload_length, total, is_level, is_expected, total_allowed}
 use Rattle.page.specs.Page.{validate_page_records, accepted_page, decode_page}
 
--- the caller's part
-pub record CallerHolds (reference : TreeRef) (uuid : List ℕ) (kind : TreeKind) (parent : ℕ) (expected : Option ℕ) (blocks : ℕ) (page : List ℕ) : Type 0 where
+-- 01, section 4, READING-RULES 7.2, tests 1 to 6: the caller's part
+pub record CallerHolds (reference : TreeRef) (uuid : List ℕ) (kind : TreeKind) (parent_generation : ℕ) (expected_level : Option ℕ) (blocks : ℕ) (page : List ℕ) : Type 0 where
   pub size : length page ≡ 4096
   pub range : validate_blocks blocks Input ≡ Ok tt
   pub place : validate_page_ref reference kind blocks Input ≡ Ok tt
   pub volume : validate_uuid uuid Input ≡ Ok tt
-  pub parent_given : parent ≡ 0 → ⊥
-  pub not_newer : reference.generation ≤ parent
-  pub level_known : is_level expected ≡ true
+  pub parent_given : parent_generation ≡ 0 → ⊥
+  pub not_newer : reference.generation ≤ parent_generation
+  pub level_known : is_level expected_level ≡ true
 
--- the header's fields
-pub record HeaderHolds (reference : TreeRef) (uuid : List ℕ) (kind : TreeKind) (parent : ℕ) (expected : Option ℕ) (blocks : ℕ) (page : List ℕ) : Type 0 where
+-- READING-RULES 7.2, tests 7 to 21: the header's fields
+pub record HeaderHolds (reference : TreeRef) (uuid : List ℕ) (kind : TreeKind) (parent_generation : ℕ) (expected_level : Option ℕ) (blocks : ℕ) (page : List ℕ) : Type 0 where
   pub checksum : crc32c_with_zero page 64 68 ≡ u32_at page 64
   pub magic_is : part page 0 8 ≡ magic
   pub revision : u16_at page 8 ≡ 1
   pub flags : u16_at page 10 ≡ 0
   pub kind_is : (page_kind page ≡ 1) ⊎ (page_kind page ≡ 2)
-  pub tree_kind_of : tree_kind page ≡ tree_kind_value kind
+  pub tree_kind_is : tree_kind page ≡ tree_kind_value kind
   pub leaf_level : page_kind page ≡ 1 → level page ≡ 0
   pub internal_level : page_kind page ≡ 2 → (1 ≤ level page) × (level page ≤ 7)
-  pub level_is : is_expected expected page ≡ true
+  pub level_is : is_expected expected_level page ≡ true
   pub zero_15 : byte_at page 15 ≡ 0
   pub zero_36 : all_zero (part page 36 4) ≡ true
   pub zero_68 : all_zero (part page 68 12) ≡ true
   pub block : self_block page ≡ reference.block
   pub generation_is : generation page ≡ reference.generation
-  pub parent_newer : generation page ≤ parent
+  pub parent_newer : generation page ≤ parent_generation
   pub uuid_is : part page 40 16 ≡ uuid
   pub payload_fits : payload_length page ≤ 4016
   pub total_fits_in : total page ≤ blocks
@@ -52,13 +52,13 @@ pub record ContentHolds (kind : TreeKind) (blocks : ℕ) (page : List ℕ) : Typ
   pub children : page_kind page ≡ 2 → 2 ≤ count page
 
 -- section 4: what holds of an accepted page
-pub record PageHolds (reference : TreeRef) (uuid : List ℕ) (kind : TreeKind) (parent : ℕ) (expected : Option ℕ) (blocks : ℕ) (page : List ℕ) : Type 0 where
-  pub caller : CallerHolds reference uuid kind parent expected blocks page
-  pub header : HeaderHolds reference uuid kind parent expected blocks page
+pub record PageHolds (reference : TreeRef) (uuid : List ℕ) (kind : TreeKind) (parent_generation : ℕ) (expected_level : Option ℕ) (blocks : ℕ) (page : List ℕ) : Type 0 where
+  pub caller : CallerHolds reference uuid kind parent_generation expected_level blocks page
+  pub header : HeaderHolds reference uuid kind parent_generation expected_level blocks page
   pub content : ContentHolds kind blocks page
 
 -- `decode_page` accepts a page exactly when these hold, and then answers what it states
 abbrev pub PageExactly : Type 0
 PageExactly =
-    (reference : TreeRef) (uuid : List ℕ) (kind : TreeKind) (parent : ℕ) (expected : Option ℕ) (blocks : ℕ) (page : List ℕ) (answer : Page)
-    → (decode_page reference uuid kind parent expected blocks page ≡ Ok answer) ↔ (PageHolds reference uuid kind parent expected blocks page × (answer ≡ accepted_page page))
+    (reference : TreeRef) (uuid : List ℕ) (kind : TreeKind) (parent_generation : ℕ) (expected_level : Option ℕ) (blocks : ℕ) (page : List ℕ) (answer : Page)
+    → (decode_page reference uuid kind parent_generation expected_level blocks page ≡ Ok answer) ↔ (PageHolds reference uuid kind parent_generation expected_level blocks page × (answer ≡ accepted_page page))

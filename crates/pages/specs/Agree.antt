@@ -16,10 +16,10 @@ use Rattle.page.specs.View.{Views, Found, Stepped}
 abbrev pub lookup : PageView → List ℕ → List ℕ → Finding
 lookup view key scratch = lookup_in view.payload.now view.count key scratch
 
--- the definition of `decode_page` accepts the bytes with the call's arguments
-pub record Accepted (reference : TreeRef) (uuid : List ℕ) (kind : TreeKind) (parent : ℕ) (expected : Option ℕ) (blocks : ℕ) (page : List ℕ) : Type 0 where
+-- `check_page`, every check of `decode_page`, accepts the bytes with the call's arguments
+pub record Accepted (reference : TreeRef) (uuid : List ℕ) (kind : TreeKind) (parent_generation : ℕ) (expected_level : Option ℕ) (blocks : ℕ) (page : List ℕ) : Type 0 where
   pub bytes : Bytes page
-  pub passed : check_page reference uuid kind parent expected blocks page ≡ Ok tt
+  pub passed : check_page reference uuid kind parent_generation expected_level blocks page ≡ Ok tt
 
 -- two views agree: level, total, and for every sought byte string the lookup finds the same record in both, or none in either; the scratch is chosen anew
 -- for each view and each key

@@ -11,7 +11,7 @@ use Rattle.octets.specs.Below.{every}
 use Rattle.volume.specs.declared.GroupBlocks.{GroupBlocks}
 use Rattle.volume.specs.Groups.{allocation_group_blocks, allocation_group_count, reserved_group_blocks}
 
--- `validate_allocation_group`, READING-RULES 11: the number of a group is below the volume's count of groups; where the count passes 64 bits, the mode's refusal takes the place of its class 3; the caller names both reasons
+-- `validate_allocation_group`, READING-RULES 11: the number of a group is below the volume's count of groups; where blocks + 16,383 passes 64 bits, the mode's refusal takes the place of its class 3; the caller names both reasons
 abbrev pub group_index_demands : ℕ → ℕ → ℕ → ℕ → Validation → List Demand
 group_index_demands group blocks uncounted outside mode =
     is_passed (allocation_group_count blocks) otherwise violation_of mode uncounted

@@ -12,8 +12,8 @@ abbrev pub is_new : List ℕ → Bool
 is_new text = is_passed (label_new text)
 
 -- U+009F, two bytes in UTF-8
-abbrev pub u009_f : List ℕ
-u009_f = 0xC2 ∷ 0x9F ∷ []
+abbrev pub u009f : List ℕ
+u009f = 0xC2 ∷ 0x9F ∷ []
 
 -- section 3: labels
 unfoldable pub cases : List Bool
@@ -21,7 +21,7 @@ cases =
     -- `-` is a label, `..` isn't, U+009F isn't
     is_new (0x2D ∷ [])
     ∷ not (is_new dots)
-    ∷ (eqb (number u009_f) 0x9F && not (is_new u009_f))
+    ∷ (eqb (number u009f) 0x9F && not (is_new u009f))
     ∷ []
 
 -- a root of so many bytes, in any slot of a volume of so many blocks, answers this class and reason

@@ -11,7 +11,7 @@ use Rattle.volume.specs.References.{validate_blocks, validate_root_slot, validat
 use Rattle.volume.specs.declared.TreeKind.{TreeKind}
 use Rattle.root.specs.declared.Root.{Root}
 
--- 01, section 5: owner numbers run 1..2^63 - 2; the next number is this one when none is left
+-- `MAX_ID`: the next number when none is left, one above the last owner number (01, section 5)
 abbrev pub max_id : ℕ
 max_id = 2 ^ 63 - 1
 
@@ -71,7 +71,7 @@ trees_demands r mode =
 unfoldable pub check_trees : Root → Validation → Check
 check_trees r mode = demands (trees_demands r mode)
 
--- `validate_root_fields`, READING-RULES 6.2: next object 2..2^63 - 1, next job 1..2^63 - 1, and at most B - 1,027 free blocks: all but the reserved ones and those of the three trees
+-- `validate_root_fields`, READING-RULES 6.2: next object 2..2^63 - 1, next job 1..2^63 - 1, and at most B - 1,027 free blocks: all but the reserved ones and one block for each of the three trees
 abbrev pub numbers_demands : Root → ℕ → Validation → List Demand
 numbers_demands r blocks mode =
     (leb 2 r.next_object && leb r.next_object max_id) otherwise violation_of mode reason.invalid_next_object_id

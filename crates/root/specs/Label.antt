@@ -39,6 +39,6 @@ label_of text = record { len = length text; bytes = padded_to 255 text }
 abbrev pub label_demands : List ℕ → List Demand
 label_demands text = is_label text otherwise InvalidInput reason.invalid_volume_label ∷ []
 
--- section 3: `Label::new`
+-- `Label::new` (01, "What to write where"), by section 3's rule
 unfoldable pub label_new : List ℕ → Result Label Error
 label_new text = outcome (label_demands text) (Ok (label_of text))

@@ -29,7 +29,7 @@ label_length s = u16_at s 184
 abbrev pub has_label : List ℕ → Bool
 has_label s = not (eqb (label_length s) 0)
 
--- section 3: its text, from byte 186 on
+-- `Root::decode`, READING-RULES 6.1: its text, from byte 186 on
 unfoldable pub label_text : List ℕ → List ℕ
 label_text s = part s 186 (label_length s)
 

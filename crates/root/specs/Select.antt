@@ -12,18 +12,18 @@ use Rattle.root.specs.declared.Label.{Label}
 use Rattle.root.specs.declared.Root.{Root}
 use Rattle.root.specs.declared.Selected.{Selected}
 
--- two labels: none and none, or length and all 255 bytes the same
+-- the derived equality of the Rust's Root: two labels: none and none, or length and all 255 bytes the same
 abbrev pub same_label : Option Label → Option Label → Bool
 same_label (Some a) (Some b) = eqb a.len b.len && same_bytes a.bytes b.bytes
 same_label (Some a) None = false
 same_label None (Some b) = false
 same_label None None = true
 
--- two references: block and generation are the same
+-- the derived equality of the Rust's Root: two references: block and generation are the same
 abbrev pub same_ref : TreeRef → TreeRef → Bool
 same_ref a b = eqb a.block b.block && eqb a.generation b.generation
 
--- every field the same
+-- the derived equality of the Rust's Root: every field the same
 unfoldable pub same_root : Root → Root → Bool
 same_root a b =
     same_label a.label b.label
@@ -39,7 +39,7 @@ same_root a b =
     && same_ref a.workspace b.workspace
     && eqb a.workspace_cursor b.workspace_cursor
 
--- the answer: 1 for the first, 2 for the second, and the root itself
+-- READING-RULES 6.4: the answer: 1 for the first, 2 for the second, and the root itself
 abbrev pub selection : ℕ → Root → Selected
 selection n r = record { which = n; root = r }
 
@@ -75,17 +75,17 @@ choose_root (Ok a) (Ok b) = select_root a b
 
 -- ---- the same, plainly
 
--- a chosen root is one of those that are there, and none of those is newer
+-- READING-RULES 6.4: a chosen root is one of those that are there, and none of those is newer
 pub record Newest (a b : Result (Option Root) Error) (s : Selected) : Type 0 where
   pub one : ((s.which ≡ 1) × (a ≡ Ok (Some s.root))) ⊎ ((s.which ≡ 2) × (b ≡ Ok (Some s.root)))
   pub first : (r : Root) → a ≡ Ok (Some r) → r.generation ≤ s.root.generation
   pub second : (r : Root) → b ≡ Ok (Some r) → r.generation ≤ s.root.generation
 
--- where a root is chosen it is such a one
+-- READING-RULES 6.4: where a root is chosen it is such a one
 abbrev pub ChosenIsNewest : Type 0
 ChosenIsNewest = (a b : Result (Option Root) Error) (s : Selected) → choose_root a b ≡ Ok s → Newest a b s
 
--- a block refused with another class than 3 decides for both, the first before the second
+-- READING-RULES 6.4: a block refused with another class than 3 decides for both, the first before the second
 pub record RefusalsStand : Type 0 where
   pub of_first : (a b : Result Root Error) (e : Error) → a ≡ Err e → (class_of e ≡ 3 → ⊥) → choose_root (supported_root a) (supported_root b) ≡ Err e
   pub of_second : (a b : Result Root Error) (e : Error) → (check_class a ≡ 0) ⊎ (check_class a ≡ 3) → b ≡ Err e → (class_of e ≡ 3 → ⊥) → choose_root (supported_root a) (supported_root b) ≡ Err e

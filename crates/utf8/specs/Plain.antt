@@ -7,7 +7,7 @@ use Rattle.utf8.specs.Reading.Reading.{end, bad, char}
 abbrev pub allowed : ℕ → Bool
 allowed p = not (eqb p 0x2F || p from 0x0000 to 0x001F || p from 0x007F to 0x009F)
 
--- each character of a reading is allowed
+-- each character of a reading, as far as it goes, is allowed
 abbrev pub all_allowed : Reading → Bool
 all_allowed end = true
 all_allowed bad = true

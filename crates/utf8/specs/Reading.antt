@@ -8,19 +8,19 @@ infix 40 ◌from◌to◌
 abbrev pub ◌from◌to◌ : ℕ → ℕ → ℕ → Bool
 b from lo to hi = leb lo b && leb b hi
 
--- UTF8-tail = %x80-BF
+-- RFC 3629, section 4: UTF8-tail = %x80-BF
 abbrev pub tail : ℕ → Bool
 tail b = b from 0x80 to 0xBF
 
--- UTF8-1 = %x00-7F
+-- RFC 3629, section 4: UTF8-1 = %x00-7F
 abbrev pub one : ℕ → Bool
 one a = leb a 0x7F
 
--- UTF8-2 = %xC2-DF UTF8-tail
+-- RFC 3629, section 4: UTF8-2 = %xC2-DF UTF8-tail
 abbrev pub two : ℕ → ℕ → Bool
 two a b = a from 0xC2 to 0xDF && tail b
 
--- UTF8-3 = %xE0 %xA0-BF UTF8-tail / %xE1-EC 2( UTF8-tail ) / %xED %x80-9F UTF8-tail / %xEE-EF 2( UTF8-tail )
+-- RFC 3629, section 4: UTF8-3 = %xE0 %xA0-BF UTF8-tail / %xE1-EC 2( UTF8-tail ) / %xED %x80-9F UTF8-tail / %xEE-EF 2( UTF8-tail )
 abbrev pub three : ℕ → ℕ → ℕ → Bool
 three a b c =
     eqb a 0xE0 && b from 0xA0 to 0xBF && tail c ||
@@ -28,7 +28,7 @@ three a b c =
     eqb a 0xED && b from 0x80 to 0x9F && tail c ||
     a from 0xEE to 0xEF && tail b && tail c
 
--- UTF8-4 = %xF0 %x90-BF 2( UTF8-tail ) / %xF1-F3 3( UTF8-tail ) / %xF4 %x80-8F 2( UTF8-tail )
+-- RFC 3629, section 4: UTF8-4 = %xF0 %x90-BF 2( UTF8-tail ) / %xF1-F3 3( UTF8-tail ) / %xF4 %x80-8F 2( UTF8-tail )
 abbrev pub four : ℕ → ℕ → ℕ → ℕ → Bool
 four a b c d =
     eqb a 0xF0 && b from 0x90 to 0xBF && tail c && tail d ||
@@ -69,6 +69,6 @@ ends end = true
 ends bad = false
 ends (char p r) = ends r
 
--- the bytes are UTF-8: UTF8-octets = *( UTF8-char )
+-- RFC 3629, section 4: the bytes are UTF-8: UTF8-octets = *( UTF8-char )
 unfoldable pub utf8 : List ℕ → Bool
 utf8 s = ends (read s)

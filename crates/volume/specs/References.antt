@@ -1,4 +1,4 @@
--- The checks of block counts, references, slots and UUIDs (01, section 2, in the order of the Rust's `validate_page_ref` and its like).
+-- The checks of block counts, references, slots and UUIDs (01, section 2, for block counts and slots, READING-RULES 5.2 and 6.2 for references and UUIDs, in the order of the Rust's `validate_page_ref` and its like).
 use Rattle.std.specs.Prelude.{ℕ, ◌+◌, Bool, not, ◌&&◌, cond, List, [], ◌∷◌, leb, eqb}
 use Rattle.error.specs.declared.Validation.{Validation}
 use Rattle.error.specs.Answer.{Check}
@@ -22,7 +22,7 @@ tree_kind_value TreeKind.Workspace = 4
 abbrev pub is_tree_kind_value : ℕ → Bool
 is_tree_kind_value n = leb 1 n && leb n 4
 
--- the tree kind of a number from 1 to 4; of any other it is the workspace, and callers test first
+-- 01, section 4: the tree kind of a number from 1 to 4; of any other it is the workspace, and callers test first
 unfoldable pub tree_kind_of : ℕ → TreeKind
 tree_kind_of n = cond (eqb n 1) TreeKind.Catalog (cond (eqb n 2) TreeKind.Allocation (cond (eqb n 3) TreeKind.Cleanup TreeKind.Workspace))
 
@@ -75,6 +75,6 @@ root_slot_demands slot blocks mode =
 unfoldable pub validate_root_slot : ℕ → ℕ → Validation → Check
 validate_root_slot slot blocks mode = demands (root_slot_demands slot blocks mode)
 
--- `validate_uuid`: a UUID is not all zeros
+-- `validate_uuid`, READING-RULES 6.2: a UUID is not all zeros
 unfoldable pub validate_uuid : List ℕ → Validation → Check
 validate_uuid uuid mode = demands (not (all_zero uuid) otherwise violation_of mode reason.zero_volume_uuid ∷ [])

@@ -53,7 +53,7 @@ pub fn tree_kind_value(kind: TreeKind) -> u8
 }
 
 // The tree kind of a number that was tested to be one.
-// Kept: no `TryFrom`: this function promises an answer of every number, 4's for one above it, and may refuse none.
+// Kept: no `TryFrom`: this function promises an answer of every number, 4's for 0 and for one above it, and may refuse none.
 #[tactic(auto, unfolding(crate::specs::References::tree_kind_of))]
 pub fn tree_kind_of(value: u64) -> TreeKind
     ensures { result ≡ tree_kind_of value }

@@ -10,7 +10,7 @@ use Rattle.octets.specs.Order.{order}
 use Rattle.std.specs.declared.cmp.Ordering.TheVariants.{Less}
 use Rattle.walk.specs.Records.{Own, records}
 
--- a record's key and value
+-- 01, section 5: a record's key and value
 pub record Entry : Type 0 where
   pub key : List ℕ
   pub value : List ℕ
@@ -19,16 +19,16 @@ pub record Entry : Type 0 where
 abbrev pub stored : Entry → List ℕ
 stored e = little_bytes 2 (length e.key) ++ (little_bytes 2 (length e.value) ++ (e.key ++ e.value))
 
--- entries laid end to end
+-- 01, section 5: entries laid end to end
 abbrev pub end_to_end : List Entry → List ℕ
 end_to_end es = flat_map stored es
 
--- the keys strictly increase, the first being above a given one
+-- 01, section 5: the keys strictly increase, the first being above a given one
 abbrev pub Increasing : List ℕ → List Entry → Type 0
 Increasing previous [] = Unit
 Increasing previous (e ∷ es) = (order previous e.key ≡ Less) × Increasing e.key es
 
--- the sizes of an entry, and that its key and its value are bytes
+-- 01, section 5: the sizes of an entry, and that its key and its value are bytes
 pub record Fit (e : Entry) : Type 0 where
   pub key_low : 1 ≤ length e.key
   pub key_high : length e.key ≤ 1024

@@ -3,7 +3,7 @@ use Prim.Native.Nat.{◌+◌, ◌/◌}
 use native.Mathlib.Omega.{arith}
 use borrow.Author.Tests.{lt-ltb, le-ltb}
 use Rattle.lookup.proofs.RecordLaws.{whole_fits}
-use Rattle.lookup.proofs.BisectLaws.{reached_start, reached_down, reached_up, reached_end}
+use Rattle.lookup.proofs.BisectLaws.{reached_down, reached_up, reached_end}
 use Rattle.lookup.proofs.bisect_records.Goals as goal
 
 pub above_at-requires : goal.above_at-requires

@@ -1,4 +1,4 @@
-use mathlib.Core.Path.{◌≡◌, refl, ap, ◌∙◌}
+use mathlib.Core.Path.{◌≡◌, refl}
 use mathlib.Core.Bool.{true}
 use mathlib.Core.List.{List}
 use Prim.Native.Nat.{ℕ, ◌≤◌, ◌<◌, ◌+◌}
@@ -7,7 +7,6 @@ use lib.ListN.{length, drop}
 use Rattle.octets.specs.Number.{u16_at}
 use Rattle.lookup.specs.Record.{split_record, is_record}
 use Rattle.lookup.specs.Sorted.{offset_of}
-use Rattle.walk.specs.Records.{is_one_of}
 use Rattle.walk.specs.Inside.{stored_blocks}
 use Rattle.walk.proofs.Children.{whole_within, offset_more, stored_more}
 use Rattle.walk.proofs.stored_before.Goals as goal
