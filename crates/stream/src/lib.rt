@@ -3,7 +3,7 @@
 #![tactic(auto)]
 
 ghost use Rattle.std.specs.Prelude.{◌≡◌, length, OnOk};
-ghost use Rattle.stream.specs.Stream.{read_of, ReadBehind, FilledBy, Says, Sent, StartsAt};
+ghost use Rattle.stream.specs.Stream.{read_of, ReadBehind, FilledBy, Says, Sent, StartsAt, MadeRoom};
 
 use std::io;
 use std::io::{Read as _, Write as _};
@@ -31,7 +31,7 @@ pub fn read_behind<R: io::Read>(
     buf: &mut [u8],
     have: usize,
 ) -> io::Result<Option<usize>>
-    ensures { ReadBehind buf.old have buf.new result }
+    ensures { ReadBehind (R.remaining input.old) (R.remaining input.new) buf.old have buf.new result }
 {
     let size = buf.len();
     if size <= have {
@@ -41,8 +41,9 @@ pub fn read_behind<R: io::Read>(
 }
 
 // Reads until the buffer is full, the input ends or a read fails, and answers how many bytes came.
+#[tactic(auto, using(crate::proofs::Took::took_more))]
 pub fn fill<R: io::Read>(input: &mut R, buf: &mut [u8]) -> io::Result<usize>
-    ensures { FilledBy buf.old buf.new result }
+    ensures { FilledBy (R.remaining input.old) (R.remaining input.new) buf.old buf.new result }
 {
     let mut have = 0;
     while let Some(more) = read_behind(input, buf, have)? {
@@ -85,7 +86,7 @@ pub fn send<O: io::Write, E: io::Write>(
     out: &[u8],
     what: &[u8],
 ) -> Option<()>
-    ensures { Sent out.now result }
+    ensures { Sent (O.contents output.old) (O.contents output.new) out.now result }
 {
     if out.is_empty() {
         return Some(());
@@ -107,7 +108,8 @@ pub fn room<O: io::Write, E: io::Write>(
     used: usize,
     what: &[u8],
 ) -> Option<usize>
-    ensures { StartsAt (length out.now) used result }
+    ensures starts { StartsAt (length out.now) used result }
+    ensures sends { MadeRoom (O.contents output.old) (O.contents output.new) out.now used result }
 {
     if used <= out.len() / 2 {
         return Some(used);
