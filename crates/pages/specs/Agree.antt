@@ -21,15 +21,13 @@ pub record Accepted (reference : TreeRef) (uuid : List ℕ) (kind : TreeKind) (p
   pub bytes : Bytes page
   pub passed : check_page reference uuid kind parent_generation expected_level blocks page ≡ Ok tt
 
--- two views agree: level, total, and for every sought byte string the lookup finds the same record in both, or none in either; the scratch is chosen anew
--- for each view and each key
+-- two views agree in level, total, and what the lookup of every byte string finds, or that it finds none; each lookup has a scratch of its own
 pub record Same (v w : PageView) (scratch₁ scratch₂ : List ℕ → List ℕ) : Type 0 where
   pub level_same : v.level ≡ w.level
   pub total_same : v.data_blocks ≡ w.data_blocks
   pub found_same : (key : List ℕ) → Bytes key → lookup v key (scratch₁ key) ≡ lookup w key (scratch₂ key)
 
--- v₁ and v₂ are what `decode_page` returns on the two pages; one reference, UUID and tree kind; parent generation, expected level and blocks may differ; the
--- claim holds for every choice of scratch
+-- v₁ and v₂ are what `decode_page` returns on two pages of one reference, UUID and tree kind (the other arguments may differ); whatever the scratch
 abbrev pub PagesAgree : Type 0
 PagesAgree =
     (reference : TreeRef) (uuid : List ℕ) (kind : TreeKind)

@@ -66,8 +66,7 @@ abbrev pub supported_root : Result Root Error → Result (Option Root) Error
 supported_root (Ok r) = Ok (Some r)
 supported_root (Err e) = cond (eqb (class_of e) 3) (Ok None) (Err e)
 
--- READING-RULES 6.4 (01 and the Rust leave it to callers): of two slots, what `supported_root` passes on is the answer, the first's before the second's;
--- where both passed, `select_root` answers on the roots that are there
+-- READING-RULES 6.4 (the Rust leaves it to callers): what `supported_root` passes on answers, the first's before the second's, else `select_root`
 abbrev pub choose_root : Result (Option Root) Error → Result (Option Root) Error → Result Selected Error
 choose_root (Err e) b = Err e
 choose_root (Ok a) (Err e) = Err e

@@ -3,14 +3,12 @@
 use Rattle.std.specs.Prelude.{ℕ, ◌+◌, ◌-◌, ◌/◌, ◌≤◌, ◌<◌, min, ◌≡◌, cond, List, eqb, leb, length, take, drop, ◌≢◌, IfSome, Result, Ok, Err, Option, Some, None, ⊤, ◌++◌, ◌∷◌, []}
 use Rattle.std.specs.Io.KnownBytes.{Appends, Consumes, IsAtEnd, Keeps}
 
--- what the system's answer to a read behind the first `have` of `size` bytes means: no byte is the end of the input, another number is
--- how many came, never more than there is room for, and a failure is one; without room it means nothing
+-- what a read behind the first `have` of `size` bytes answers: no byte is the end, a number at most the room that came, a failure is one
 unfoldable pub read_of : {E : Type 0} → ℕ → ℕ → Result ℕ E → Result (Option ℕ) E
 read_of size have (Ok k) = cond (leb size have) (Ok None) (cond (eqb k 0) (Ok None) (Ok (Some (have + min k (size - have)))))
 read_of size have (Err e) = cond (leb size have) (Ok None) (Err e)
 
--- bytes came behind those that were there, and no more than there is room for; none came where the input ends or, with so many bytes
--- already, there is no room; a failure is told only where there was room
+-- bytes came behind those that were there, no more than there is room for, or none; a failure is told only where there was room
 abbrev pub Came : {E : Type 0} → ℕ → ℕ → Result (Option ℕ) E → Type 0
 Came size have (Ok (Some n)) = (have < n) × (n ≤ size)
 Came size have (Ok None) = ⊤
@@ -29,8 +27,7 @@ pub record ReadBehind {E : Type 0} (left rest : Option (List ℕ)) (before : Lis
   pub size : length after ≡ length before
   pub taken : Took left rest (length before) have after r
 
--- a lent buffer that was to be filled, and how many bytes came, which are just those that the reader lost: where a byte is missing, the
--- reader is at its end; nothing fails where there is nothing to fill
+-- a lent buffer that was to be filled: the bytes that came are just those that the reader lost, and where one is missing it is at its end
 pub record FilledBy {E : Type 0} (left rest : Option (List ℕ)) (before after : List ℕ) (r : Result ℕ E) : Type 0 where
   pub came : (n : ℕ) → r ≡ Ok n → n ≤ length before
   pub failed : (e : E) → r ≡ Err e → 0 < length before

@@ -36,8 +36,7 @@ pub record Fit (e : Entry) : Type 0 where
   pub key_bytes : Bytes e.key
   pub value_bytes : Bytes e.value
 
--- what an accepted walk says of the payload: it is a list of entries laid end to end, as many as the count, each of the right sizes, with strictly
--- increasing keys
+-- an accepted walk's payload: so many entries laid end to end as the count says, each of the right sizes, with strictly increasing keys
 pub record Read (payload : List ℕ) (count : ℕ) : Type 0 where
   pub entries : List Entry
   pub many : length entries ≡ count
@@ -49,8 +48,7 @@ pub record Read (payload : List ℕ) (count : ℕ) : Type 0 where
 abbrev pub numbers : Own → List Entry → List ℕ
 numbers own es = map (λ (e : Entry). number_of (own e.key e.value)) es
 
--- an accepted walk, plainly: the payload is such a list of entries, each passes its own rules, the answer of a leaf is the sum of the counts and below
--- 2^64, and no two children of an internal page have the same block
+-- an accepted walk, plainly: such entries, each of which passes its own rules; a leaf's answer is their sum, below 2^64; children's blocks differ
 pub record Walked (leaf : Bool) (own : Own) (rest : List ℕ) (payload_length count total : ℕ) : Type 0 where
   pub inside : payload_length ≤ length rest
   pub read : Read (take payload_length rest) count

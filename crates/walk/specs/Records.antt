@@ -19,8 +19,7 @@ use Rattle.walk.specs.declared.RecordValidation.{RecordValidation}
 
 -- ---- one record
 
--- `validate_records`, READING-RULES 8.2, tests 3 to 8: its form, whatever its own rules say. The two reads answer class 3 in every mode. `previous` is the key of the record before it; before the first it is the
--- empty key, which is below every key of a byte or more
+-- READING-RULES 8.2, tests 3 to 8: its form; the two reads answer class 3 in every mode; `previous` is the key before it, empty before the first
 abbrev pub form_demands : List ℕ → ℕ → List ℕ → Validation → List Demand
 form_demands rest left previous mode =
     within rest 0 2 otherwise Corrupt reason.record_key_length
@@ -35,16 +34,15 @@ form_demands rest left previous mode =
 unfoldable pub form_check : List ℕ → ℕ → List ℕ → Validation → Check
 form_check rest left previous mode = demands (form_demands rest left previous mode)
 
--- `validate_records`, READING-RULES 8.2: its own rules, by its key and its value. They answer a number: the blocks that a leaf's record counts, or the block of the child that an
--- internal page's record names
+-- READING-RULES 8.2, tests 9 and 11: its own rules, by key and value; they answer the blocks that a leaf's record counts, or the child's block
 abbrev pub Own : Type 0
 Own = List ℕ → List ℕ → Number
 
--- `validate_records`, READING-RULES 8.2: those of a leaf's record
+-- READING-RULES 8.2: those of a leaf's record
 abbrev pub leaf_rules : RecordValidation → Own
 leaf_rules c key value = validate_leaf_record c.kind key value c.blocks c.page_generation c.mode
 
--- `validate_records`, READING-RULES 8.2: those of an internal page's record
+-- READING-RULES 8.2: those of an internal page's record
 abbrev pub child_rules : RecordValidation → Own
 child_rules c key value = child_block (validate_internal_record c.kind key value c.blocks c.page_generation c.mode)
 
@@ -57,7 +55,7 @@ abbrev pub is_one_of : ℕ → List ℕ → Bool
 is_one_of n [] = false
 is_one_of n (m ∷ ms) = eqb m n || is_one_of n ms
 
--- `validate_records`, READING-RULES 8.2: its number beside those of the earlier records: in a leaf the total stays within 64 bits, in an internal page no two children share a block
+-- READING-RULES 8.2: its number beside those of the earlier records: in a leaf the total stays within 64 bits, in an internal page no two children share a block
 abbrev pub join_demands : Bool → ℕ → List ℕ → ℕ → Validation → List Demand
 join_demands leaf total seen n mode =
     cond leaf
@@ -68,7 +66,7 @@ join_demands leaf total seen n mode =
 unfoldable pub join_check : Bool → ℕ → List ℕ → ℕ → Validation → Check
 join_check leaf total seen n mode = demands (join_demands leaf total seen n mode)
 
--- `validate_records`, READING-RULES 8.2: all checks of a record
+-- READING-RULES 8.2: all checks of a record
 abbrev pub record_demands : Bool → Validation → Own → List ℕ → ℕ → List ℕ → ℕ → List ℕ → List Demand
 record_demands leaf mode own rest left previous total seen =
     passing (form_check rest left previous mode)
@@ -78,16 +76,15 @@ record_demands leaf mode own rest left previous total seen =
 
 -- ---- the walk
 
--- `validate_records`, READING-RULES 8.2: a leaf's total after a record with this number; an internal page's stays as it is
+-- READING-RULES 8.2: a leaf's total after a record with this number; an internal page's stays as it is
 abbrev pub next_total : Bool → ℕ → ℕ → ℕ
 next_total leaf total n = cond leaf (total + n) total
 
--- `validate_records`, READING-RULES 8.2: the children's blocks so far, with this one; a leaf has none
+-- READING-RULES 8.2: the children's blocks so far, with this one; a leaf has none
 abbrev pub next_blocks : Bool → List ℕ → ℕ → List ℕ
 next_blocks leaf seen n = cond leaf seen (seen ++ (n ∷ []))
 
--- `validate_records`, READING-RULES 8.2: so many records are to come; `total` is the sum of a leaf's counts so far, and `seen` are the children's blocks of an internal page so far. At the
--- end nothing of the payload is left, and the answer is the total
+-- READING-RULES 8.2: so many records are to come; `total` is a leaf's sum so far, `seen` an internal page's children; at the end no byte is left
 unfoldable pub walk : Bool → Validation → Own → ℕ → List ℕ → ℕ → List ℕ → ℕ → List ℕ → Number
 walk leaf mode own zero rest left previous total seen =
     outcome (eqb left 0 otherwise violation_of mode reason.payload_has_unconsumed_bytes ∷ []) (Ok total)
@@ -96,26 +93,26 @@ walk leaf mode own (suc n) rest left previous total seen =
     (walk leaf mode own n (drop (record_len rest) rest) (left - record_len rest) (key_of rest)
     (next_total leaf total (number_of (own_answer own rest))) (next_blocks leaf seen (number_of (own_answer own rest))))
 
--- `validate_records`, READING-RULES 8.2: the count is tested against the payload's length, and that against the bytes
+-- READING-RULES 8.2: the count is tested against the payload's length, and that against the bytes
 abbrev pub size_demands : List ℕ → ℕ → ℕ → Validation → List Demand
 size_demands rest payload_length count mode =
     leb count (payload_length / 4) otherwise violation_of mode reason.record_count_exceeds_payload
     ∷ leb payload_length (length rest) otherwise violation_of mode reason.payload_range
     ∷ []
 
--- `validate_records`, READING-RULES 8.2: these tests, and then the walk from the first record on
+-- READING-RULES 8.2: these tests, and then the walk from the first record on
 unfoldable pub records : Bool → Validation → Own → List ℕ → ℕ → ℕ → Number
 records leaf mode own rest payload_length count =
     outcome (size_demands rest payload_length count mode) (walk leaf mode own count rest payload_length [] 0 [])
 
--- `validate_records`, READING-RULES 8.2: page kind 1 is a leaf; any other counts as internal
+-- READING-RULES 8.2: page kind 1 is a leaf; any other counts as internal
 abbrev pub is_leaf : RecordValidation → Bool
 is_leaf c = eqb c.page_kind 1
 
--- `validate_records`, READING-RULES 8.2: a record's own rules, by the kind of its page
+-- READING-RULES 8.2: a record's own rules, by the kind of its page
 abbrev pub own_rules : RecordValidation → Own
 own_rules c = cond (is_leaf c) (leaf_rules c) (child_rules c)
 
--- `validate_records`, READING-RULES 8.2: the walk over a page's records, by the rules that its context names; `rest` is the block from byte 80 on
+-- READING-RULES 8.2: the walk over a page's records, by the rules that its context names; `rest` is the block from byte 80 on
 unfoldable pub validate_records : List ℕ → ℕ → ℕ → RecordValidation → Number
 validate_records rest payload_length count c = records (is_leaf c) c.mode (own_rules c) rest payload_length count
