@@ -2,6 +2,7 @@
 use Rattle.utf8.proofs.Grammar.{utf8_is_grammar}
 use Rattle.roots.proofs.LabelAccept.{label_exactly}
 use Rattle.roots.proofs.Accept.{root_exactly}
+use Rattle.roots.proofs.Choice.{choice_exactly}
 use Rattle.pages.proofs.Accept.{page_exactly}
 use Rattle.walk.proofs.Walked.{walked_exactly}
 use Rattle.group.proofs.Accept.{group_exactly}
@@ -15,6 +16,7 @@ demand_2 = record {
   texts = utf8_is_grammar;
   labels = label_exactly;
   roots = root_exactly;
+  choice = choice_exactly;
   pages = page_exactly;
   walks = walked_exactly;
   catalog = catalog_exactly;

@@ -3,6 +3,7 @@ use Rattle.std.specs.Prelude.{◌≡◌, true, ◌↔◌, List, ℕ}
 use Rattle.utf8.specs.Rfc3629.{Utf8}
 use Rattle.utf8.specs.Reading.{utf8}
 use Rattle.roots.specs.Accept.{LabelExactly, RootExactly}
+use Rattle.roots.specs.Choice.{ChoiceExactly}
 use Rattle.pages.specs.Accept.{PageExactly}
 use Rattle.walk.specs.Entries.{WalkedExactly}
 use Rattle.group.specs.Accept.{GroupExactly}
@@ -14,9 +15,10 @@ use Rattle.lookup.specs.Sorted.{FloorIsTheLast, WalkingIsHalving}
 pub record Demand2 : Type 0 where
   -- a text is UTF-8 exactly when it is a sequence of RFC 3629's alternatives
   pub texts : (s : List ℕ) → (utf8 s ≡ true) ↔ Utf8 s
-  -- section 3: labels and roots
+  -- section 3: labels, roots, and the choice of two: of one UUID, and of one generation only if they are the same in every field
   pub labels : LabelExactly
   pub roots : RootExactly
+  pub choice : ChoiceExactly
   -- section 4: pages; their records are those that the walk reads
   pub pages : PageExactly
   pub walks : WalkedExactly

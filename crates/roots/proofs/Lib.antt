@@ -2,3 +2,4 @@ pub mod Refs
 pub mod LabelAccept
 pub mod Accept
 pub mod Agree
+pub mod Choice
