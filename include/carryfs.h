@@ -1,5 +1,6 @@
 /*
- * The proved reader of carryfs volumes, for C. Link target/staticlib/libcarryfs.a (tools/build staticlib carryfs, for x86-64).
+ * The proved reader of carryfs volumes, for C. Link target/staticlib/libcarryfs.a (tools/build staticlib carryfs), which is for
+ * Linux on x86-64 with SSE4.2, that is x86-64-v2: on an older processor a call may end in an illegal instruction.
  *
  * Each function reads what it is lent and answers; it allocates nothing and keeps nothing, and may be called from any thread.
  * A part of memory is a pointer and a number of elements, all of them there while the call runs. No pointer may be NULL, also
@@ -56,7 +57,7 @@ uint32_t carryfs_group(const uint8_t *key, size_t key_length, const uint8_t *val
                        size_t out_length);
 
 /* A slot, 0 to 255, of a checksum group, stored or expanded. Class 0, or 3 where there is no such slot, the bitmap isn't whole, or
- * the slot's word lies beyond the group. */
+ * a present slot's word lies beyond the group. */
 #define CARRYFS_SLOT_CLASS 0
 #define CARRYFS_SLOT_REASON 1
 #define CARRYFS_SLOT_PRESENT 2 /* 1 where the slot holds a word, 0 where it is a hole */
@@ -65,7 +66,8 @@ uint32_t carryfs_group(const uint8_t *key, size_t key_length, const uint8_t *val
 uint32_t carryfs_slot(const uint8_t *group, size_t group_length, size_t slot, uint64_t *out, size_t out_length);
 
 /* The root in the block `slot` of a volume of `blocks` blocks. `text` takes the UUID's 16 bytes and then 255 bytes: the label's,
- * and zeros. Class 0, 1 (fewer than 1,024 blocks), 2 (`slot` is no root's slot), 3 or 4. */
+ * and zeros. The label is no C string: behind one of 255 bytes there is no NUL; print LABEL_LENGTH bytes. Class 0, 1 (fewer than
+ * 1,024 blocks), 2 (`slot` is no root's slot), 3 or 4. */
 #define CARRYFS_ROOT_CLASS 0
 #define CARRYFS_ROOT_REASON 1
 #define CARRYFS_ROOT_HAS_LABEL 2
@@ -102,7 +104,11 @@ uint32_t carryfs_select(const uint8_t *first, size_t first_length, uint64_t firs
 
 /* The page that a reference (block, generation) names, in a tree of the kind, below a parent of the generation `parent`, in a
  * volume of `blocks` blocks. Class 0, 2 (what the caller says of the page can't be), 3 or 4. A UUID that isn't 16 bytes, a kind
- * outside 1 to 4 or a level above 255 is CARRYFS_NOT_ASKED; an expected level from 8 to 254 is refused. */
+ * outside 1 to 4 or a level above 255 is CARRYFS_NOT_ASKED; an expected level from 8 to 254 is refused.
+ * For the root page of a tree, block and generation are those of the tree in carryfs_root's words, the UUID is in its `text`, the
+ * parent is the root's generation, and the level CARRYFS_ANY_LEVEL. In a page of a level above 0 the value of each record is 16
+ * bytes, a child's block and generation, each little-endian. The child is of the same kind, its parent is this page's generation,
+ * and its level is one less. Levels are 7 to 0, so there are at most eight pages on a way down. */
 #define CARRYFS_CATALOG 1u
 #define CARRYFS_ALLOCATION 2u
 #define CARRYFS_CLEANUP 3u

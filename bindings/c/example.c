@@ -1,11 +1,16 @@
 /*
- * Reads the blocks of a file, chooses between its first two roots, and prints what it finds.
+ * Reads the blocks of a file, or a volume from its roots down through its catalog, and prints what it finds.
  *
- *   example FILE [DATA]    FILE in the form of README.md: a byte of kind, the numbers that the block is read with, the block.
- *                          DATA: the first unit of a file of the volume, at most 65,536 bytes, held to the stored checksums
+ *   example FILE [DATA]            FILE in the form of README.md: a byte of kind, the numbers that the block is read with, the
+ *                                  block. Of its first two roots one is chosen
+ *   example --image FILE [DATA]    FILE is a whole volume, from its first block to its last
  *
- * Exit status 0 if the file was read to its end and a root was chosen, 1 if not, 2 if there is nothing to read.
+ * DATA: the first unit of a file of the volume, at most 65,536 bytes, held to the stored checksums.
+ *
+ * Exit status 0 if the file was read to its end and a root was chosen, of a volume if every page of the chosen root's catalog was
+ * accepted; 1 if not, or if standard output can't be written; 2 if there is nothing to read.
  */
+#include <errno.h>
 #include <inttypes.h>
 #include <stdio.h>
 #include <stdlib.h>
@@ -19,12 +24,48 @@
 #define PAGE_BODY (8 + 8 + UUID + 1 + 8 + 1 + 8 + BLOCK)
 #define CHECKSUM_GROUP 4 /* the ninth byte of a catalog key */
 #define UNIT 65536
+#define LEAST_BLOCKS 1024 /* a volume has no fewer */
+#define FIRST_SLOT 256    /* the block of the first root */
+#define SLOT_FROM_END 257 /* that of the second, from the volume's end */
+#define LEVELS 8          /* of a tree: 7 to 0 */
 
 /* A root block, and the numbers that it is read with. */
 struct root {
     uint8_t block[BLOCK];
     uint64_t slot;
     uint64_t blocks;
+};
+
+/* A page's block, and what it is read with. */
+struct page {
+    const uint8_t *bytes;
+    uint64_t block;
+    uint64_t generation;
+    const uint8_t *uuid;
+    uint32_t kind;
+    uint64_t parent;
+    uint32_t level;
+    uint64_t blocks;
+};
+
+/* The records that are left of an accepted page, and the one that was taken last. */
+struct records {
+    const uint8_t *part;
+    size_t length;
+    size_t remaining;
+    const uint8_t *key;
+    size_t key_length;
+    const uint8_t *value;
+    size_t value_length;
+};
+
+/* The file of a volume. */
+struct image {
+    FILE *file;
+    uint64_t blocks;
+    uint64_t pages;             /* how many have been read */
+    uint8_t uuid[UUID];         /* the chosen root's */
+    uint8_t way[LEVELS][BLOCK]; /* the pages from the tree's root down to the one that is read */
 };
 
 /* The data to check, if any. */
@@ -77,13 +118,18 @@ static void print_hex(const uint8_t *bytes, uint64_t length)
         printf("%02x", bytes[i]);
 }
 
+static void root_fields(const struct root *root, uint64_t out[CARRYFS_ROOT_WORDS], uint8_t text[CARRYFS_TEXT_BYTES])
+{
+    must(carryfs_root(root->block, BLOCK, root->slot, root->blocks, out, CARRYFS_ROOT_WORDS, text, CARRYFS_TEXT_BYTES),
+         "carryfs_root");
+}
+
 static void read_root(const struct root *root)
 {
     uint64_t out[CARRYFS_ROOT_WORDS];
     uint8_t text[CARRYFS_TEXT_BYTES];
     printf("root in block %" PRIu64 ": ", root->slot);
-    must(carryfs_root(root->block, BLOCK, root->slot, root->blocks, out, CARRYFS_ROOT_WORDS, text, CARRYFS_TEXT_BYTES),
-         "carryfs_root");
+    root_fields(root, out, text);
     if (refused(out))
         return;
     printf("generation %" PRIu64 ", ", out[CARRYFS_ROOT_GENERATION]);
@@ -131,64 +177,97 @@ static void read_group(const uint8_t *uuid, const uint8_t *key, size_t key_lengt
         check_unit(uuid, key_number(key), 0, word[CARRYFS_SLOT_WORD]);
 }
 
-/* The records of an accepted page, in order, and the last of them sought by its key. */
-static void read_records(const uint8_t *payload, size_t length, size_t count, const uint8_t *uuid, int groups)
+/* The records of an accepted page, of which `out` is carryfs_page's answer. */
+static struct records records_of(const struct page *page, const uint64_t *out)
+{
+    struct records records = {0};
+    records.part = page->bytes + out[CARRYFS_PAGE_PAYLOAD];
+    records.length = (size_t)out[CARRYFS_PAGE_PAYLOAD_LENGTH];
+    records.remaining = (size_t)out[CARRYFS_PAGE_COUNT];
+    return records;
+}
+
+/* Takes the next record; 0 where there is none. */
+static int take(struct records *records)
 {
     uint64_t out[CARRYFS_NEXT_WORDS];
-    uint64_t found[CARRYFS_FLOOR_WORDS];
+    must(carryfs_next(records->part, records->length, records->remaining, out, CARRYFS_NEXT_WORDS), "carryfs_next");
+    if (!out[CARRYFS_NEXT_FOUND])
+        return 0;
+    records->key = records->part + out[CARRYFS_NEXT_KEY];
+    records->key_length = (size_t)(out[CARRYFS_NEXT_KEY_END] - out[CARRYFS_NEXT_KEY]);
+    records->value = records->part + out[CARRYFS_NEXT_KEY_END];
+    records->value_length = (size_t)(out[CARRYFS_NEXT_VALUE_END] - out[CARRYFS_NEXT_KEY_END]);
+    records->part += out[CARRYFS_NEXT_VALUE_END];
+    records->length -= (size_t)out[CARRYFS_NEXT_VALUE_END];
+    records->remaining = (size_t)out[CARRYFS_NEXT_REMAINING];
+    return 1;
+}
+
+/* Seeks a key in the records of an accepted page. */
+static void look_up(const struct records *all, const uint8_t *key, size_t key_length)
+{
+    uint64_t out[CARRYFS_FLOOR_WORDS];
     uint16_t scratch[1024]; /* enough for every page: it has 4,016 bytes of records, and each takes at least 5 */
-    const uint8_t *part = payload;
-    const uint8_t *last = payload;
-    size_t remaining = count;
-    size_t last_length = 0;
-    for (;;) {
-        size_t key, key_end, end;
-        must(carryfs_next(part, length, remaining, out, CARRYFS_NEXT_WORDS), "carryfs_next");
-        if (!out[CARRYFS_NEXT_FOUND])
-            break;
-        key = (size_t)out[CARRYFS_NEXT_KEY];
-        key_end = (size_t)out[CARRYFS_NEXT_KEY_END];
-        end = (size_t)out[CARRYFS_NEXT_VALUE_END];
-        printf("  key ");
-        print_hex(part + key, key_end - key);
-        printf(", a value of %lu bytes\n", (unsigned long)(end - key_end));
-        if (groups && part[key + 8] == CHECKSUM_GROUP)
-            read_group(uuid, part + key, key_end - key, part + key_end, end - key_end);
-        last = part + key;
-        last_length = key_end - key;
-        part += end;
-        length -= end;
-        remaining = (size_t)out[CARRYFS_NEXT_REMAINING];
-    }
-    if (count == 0)
-        return;
-    must(carryfs_lookup(payload, (size_t)(part - payload), count, last, last_length, scratch, 1024, found, CARRYFS_FLOOR_WORDS),
+    must(carryfs_lookup(all->part, all->length, all->remaining, key, key_length, scratch, 1024, out, CARRYFS_FLOOR_WORDS),
          "carryfs_lookup");
-    if (found[CARRYFS_FLOOR_FOUND])
-        printf("  the last key is found at index %" PRIu64 ", byte %" PRIu64 "\n", found[CARRYFS_FLOOR_INDEX],
-               found[CARRYFS_FLOOR_OFFSET]);
+    if (out[CARRYFS_FLOOR_FOUND])
+        printf("  the last key is found at index %" PRIu64 ", byte %" PRIu64 "\n", out[CARRYFS_FLOOR_INDEX],
+               out[CARRYFS_FLOOR_OFFSET]);
     else
         printf("  the last key isn't found\n");
 }
 
-static int read_page(const uint8_t *body)
+/* The records of an accepted page, in order, and the last of them sought by its key. */
+static void read_records(const struct records *all, const uint8_t *uuid, int groups)
 {
-    const uint8_t *block = body + 50;
-    uint32_t kind = body[32];
+    struct records records = *all;
+    while (take(&records)) {
+        printf("  key ");
+        print_hex(records.key, records.key_length);
+        printf(", a value of %lu bytes\n", (unsigned long)records.value_length);
+        if (groups && records.key[8] == CHECKSUM_GROUP)
+            read_group(uuid, records.key, records.key_length, records.value, records.value_length);
+    }
+    if (all->remaining > 0)
+        look_up(all, records.key, records.key_length);
+}
+
+/* Prints a page with its records. `out` becomes carryfs_page's answer, and the result is its status. */
+static uint32_t read_page(const struct page *page, uint64_t out[CARRYFS_PAGE_WORDS])
+{
+    struct records records;
+    uint32_t status = carryfs_page(page->bytes, BLOCK, page->block, page->generation, page->uuid, UUID, page->kind, page->parent,
+                                   page->level, page->blocks, out, CARRYFS_PAGE_WORDS);
+    printf("page in block %" PRIu64 ", tree %" PRIu32 ": ", page->block, page->kind);
+    if (status != CARRYFS_DONE || refused(out))
+        return status;
+    printf("level %" PRIu64 ", records: %" PRIu64 "\n", out[CARRYFS_PAGE_LEVEL], out[CARRYFS_PAGE_COUNT]);
+    records = records_of(page, out);
+    read_records(&records, page->uuid, page->kind == CARRYFS_CATALOG && out[CARRYFS_PAGE_LEVEL] == 0);
+    return status;
+}
+
+/* A page as it stands in a body, behind the byte of its kind. */
+static int read_page_body(const uint8_t *body)
+{
+    struct page page;
     uint64_t out[CARRYFS_PAGE_WORDS];
-    uint32_t status = carryfs_page(block, BLOCK, number(body), number(body + 8), body + 16, UUID, kind, number(body + 33),
-                                   body[41], number(body + 42), out, CARRYFS_PAGE_WORDS);
-    printf("page in block %" PRIu64 ", tree %" PRIu32 ": ", number(body), kind);
+    uint32_t status;
+    page.block = number(body);
+    page.generation = number(body + 8);
+    page.uuid = body + 16;
+    page.kind = body[32];
+    page.parent = number(body + 33);
+    page.level = body[41];
+    page.blocks = number(body + 42);
+    page.bytes = body + 50;
+    status = read_page(&page, out);
     if (status == CARRYFS_NOT_ASKED) {
         printf("there is no such tree\n");
         return 0;
     }
     must(status, "carryfs_page");
-    if (refused(out))
-        return 1;
-    printf("level %" PRIu64 ", records: %" PRIu64 "\n", out[CARRYFS_PAGE_LEVEL], out[CARRYFS_PAGE_COUNT]);
-    read_records(block + out[CARRYFS_PAGE_PAYLOAD], (size_t)out[CARRYFS_PAGE_PAYLOAD_LENGTH],
-                 (size_t)out[CARRYFS_PAGE_COUNT], body + 16, kind == CARRYFS_CATALOG && out[CARRYFS_PAGE_LEVEL] == 0);
     return 1;
 }
 
@@ -218,7 +297,7 @@ static int read_bodies(FILE *file, struct root *roots, int *found)
             read_root(&root);
             if (*found < 2)
                 roots[(*found)++] = root;
-        } else if (!read_page(body)) {
+        } else if (!read_page_body(body)) {
             return 0;
         }
     }
@@ -229,7 +308,8 @@ static int read_bodies(FILE *file, struct root *roots, int *found)
     return 1;
 }
 
-static int choose(const struct root *a, const struct root *b)
+/* 1 for the first, 2 for the second, 0 for none. */
+static uint64_t choose(const struct root *a, const struct root *b)
 {
     uint64_t out[CARRYFS_SELECT_WORDS];
     must(carryfs_select(a->block, BLOCK, a->slot, a->blocks, b->block, BLOCK, b->slot, b->blocks, out, CARRYFS_SELECT_WORDS),
@@ -239,52 +319,187 @@ static int choose(const struct root *a, const struct root *b)
         return 0;
     printf("the %s, of generation %" PRIu64 "\n", out[CARRYFS_SELECT_WHICH] == 1 ? "first" : "second",
            out[CARRYFS_SELECT_GENERATION]);
-    return 1;
+    return out[CARRYFS_SELECT_WHICH];
 }
 
+static int read_file(FILE *file)
+{
+    static struct root roots[2];
+    int found = 0;
+    if (!read_bodies(file, roots, &found))
+        return 0;
+    if (found < 2) {
+        printf("fewer than two roots: none is chosen\n");
+        return 0;
+    }
+    return choose(&roots[0], &roots[1]) != 0;
+}
+
+/* How many blocks an image has, from its length; 0 where it isn't one of a volume. */
+static uint64_t count_blocks(FILE *file)
+{
+    long length;
+    if (fseek(file, 0, SEEK_END) != 0 || (length = ftell(file)) < 0) {
+        printf("the image's length can't be told: %s\n", strerror(errno));
+        return 0;
+    }
+    if (length % BLOCK != 0) {
+        printf("the image has %ld bytes, which aren't whole blocks of %d\n", length, BLOCK);
+        return 0;
+    }
+    if (length / BLOCK < LEAST_BLOCKS) {
+        printf("the image has %ld blocks: a volume has %d at least\n", length / BLOCK, LEAST_BLOCKS);
+        return 0;
+    }
+    return (uint64_t)(length / BLOCK);
+}
+
+/* Reads a block of an image. Its place fits a long, since the image's length does. */
+static int read_block(const struct image *image, uint64_t block, uint8_t *bytes)
+{
+    if (block >= image->blocks) {
+        printf("block %" PRIu64 " lies beyond the image\n", block);
+        return 0;
+    }
+    errno = 0;
+    if (fseek(image->file, (long)block * BLOCK, SEEK_SET) == 0 && fread(bytes, 1, BLOCK, image->file) == BLOCK)
+        return 1;
+    printf("block %" PRIu64 " can't be read: %s\n", block, errno != 0 ? strerror(errno) : "the image ends before");
+    return 0;
+}
+
+static int walk_children(struct image *image, const struct page *parent, const uint64_t *out);
+
+/* A page of the catalog and all that is below it. It is read into the place of its level in `way`, the tree's root page, of any
+ * level, into the last. A child has one level less, since carryfs_page refuses another: so each has a place, and the walk ends. A
+ * bad tree may name a page over and over, and would take very long: hence the bound. */
+static int walk(struct image *image, uint64_t block, uint64_t generation, uint64_t parent, uint32_t level)
+{
+    struct page page;
+    uint64_t out[CARRYFS_PAGE_WORDS];
+    uint8_t *bytes = image->way[level == CARRYFS_ANY_LEVEL ? LEVELS - 1 : level];
+    if (image->pages > image->blocks)
+        return 0;
+    if (image->pages++ == image->blocks) {
+        printf("the catalog names more pages than the volume has blocks\n");
+        return 0;
+    }
+    if (!read_block(image, block, bytes))
+        return 0;
+    page.bytes = bytes;
+    page.block = block;
+    page.generation = generation;
+    page.uuid = image->uuid;
+    page.kind = CARRYFS_CATALOG;
+    page.parent = parent;
+    page.level = level;
+    page.blocks = image->blocks;
+    must(read_page(&page, out), "carryfs_page");
+    if (out[CARRYFS_PAGE_CLASS] != 0)
+        return 0;
+    return out[CARRYFS_PAGE_LEVEL] == 0 || walk_children(image, &page, out);
+}
+
+/* The value of each record is a child's block and generation. Where one is refused the others are read all the same. */
+static int walk_children(struct image *image, const struct page *parent, const uint64_t *out)
+{
+    struct records records = records_of(parent, out);
+    uint32_t level = (uint32_t)out[CARRYFS_PAGE_LEVEL] - 1;
+    int whole = 1;
+    while (take(&records))
+        whole &= walk(image, number(records.value), number(records.value + 8), parent->generation, level);
+    return whole;
+}
+
+/* A root of an image. A block that can't be read counts as no root, as zeros do. */
+static void read_slot(const struct image *image, uint64_t slot, struct root *root)
+{
+    root->slot = slot;
+    root->blocks = image->blocks;
+    if (!read_block(image, slot, root->block))
+        memset(root->block, 0, BLOCK);
+    read_root(root);
+}
+
+/* The two roots of a volume, the choice, and the chosen one's catalog. */
+static int read_image(FILE *file)
+{
+    static struct image image;
+    static struct root roots[2];
+    uint64_t out[CARRYFS_ROOT_WORDS];
+    uint8_t text[CARRYFS_TEXT_BYTES];
+    uint64_t which;
+    image.file = file;
+    image.blocks = count_blocks(file);
+    if (image.blocks == 0)
+        return 0;
+    read_slot(&image, FIRST_SLOT, &roots[0]);
+    read_slot(&image, image.blocks - SLOT_FROM_END, &roots[1]);
+    which = choose(&roots[0], &roots[1]);
+    if (which == 0)
+        return 0;
+    root_fields(&roots[which - 1], out, text);
+    memcpy(image.uuid, text + CARRYFS_TEXT_UUID, UUID);
+    return walk(&image, out[CARRYFS_ROOT_CATALOG], out[CARRYFS_ROOT_CATALOG + 1], out[CARRYFS_ROOT_GENERATION],
+                CARRYFS_ANY_LEVEL);
+}
+
+/* Opens a file and tries to read it: a folder can be opened. */
 static FILE *open_file(const char *name)
 {
     FILE *file = fopen(name, "rb");
-    if (!file) {
+    if (file) {
+        int first = getc(file);
+        if (!ferror(file)) {
+            ungetc(first, file);
+            return file;
+        }
+    }
+    perror(name);
+    exit(2);
+}
+
+static void read_data(const char *name)
+{
+    FILE *file = open_file(name);
+    data_length = fread(data, 1, UNIT + 1, file);
+    if (ferror(file)) {
         perror(name);
         exit(2);
     }
-    return file;
+    fclose(file);
+    if (data_length == 0 || data_length > UNIT) {
+        fprintf(stderr, "%s: not 1 to 65536 bytes\n", name);
+        exit(2);
+    }
+}
+
+/* Run at every exit: what standard output didn't take makes it status 1. */
+static void finish(void)
+{
+    if (fflush(stdout) != 0 || ferror(stdout)) {
+        fprintf(stderr, "example: standard output can't be written\n");
+        _Exit(1);
+    }
 }
 
 int main(int count, char **words)
 {
-    static struct root roots[2];
-    int found = 0;
+    int image = count > 1 && strcmp(words[1], "--image") == 0;
     int whole;
     FILE *file;
+    if (atexit(finish) != 0)
+        return 1;
+    words += image;
+    count -= image;
     if (count != 2 && count != 3) {
-        fprintf(stderr, "usage: example FILE [DATA]\n");
+        fprintf(stderr, "usage: example [--image] FILE [DATA]\n");
         return 2;
     }
-    if (count == 3) {
-        file = open_file(words[2]);
-        data_length = fread(data, 1, UNIT + 1, file);
-        fclose(file);
-        if (data_length == 0 || data_length > UNIT) {
-            fprintf(stderr, "%s: not 1 to 65536 bytes\n", words[2]);
-            return 2;
-        }
-    }
+    if (count == 3)
+        read_data(words[2]);
     file = open_file(words[1]);
-    whole = read_bodies(file, roots, &found);
+    whole = image ? read_image(file) : read_file(file);
     fclose(file);
-    if (!whole)
-        return 1;
-    if (found < 2) {
-        printf("fewer than two roots: none is chosen\n");
-        return 1;
-    }
-    if (!choose(&roots[0], &roots[1]))
-        return 1;
-    if (fflush(stdout) != 0 || ferror(stdout)) {
-        perror("standard output");
-        return 1;
-    }
-    return 0;
+    return whole ? 0 : 1;
 }

@@ -1,6 +1,6 @@
 //! Finds libcarryfs.a: in CARRYFS_LIB_DIR, else in target/staticlib of the repository, where `tools/build` brings it up to date.
 //! For the tests it also finds the reference's source (CARRYFS_SRC, else ../shared/docs/src from the top of the repository);
-//! without it the tests that need it are left out.
+//! where CARRYFS_SRC isn't set and there is none, the tests that need it are left out.
 use std::env;
 use std::fs;
 use std::path::{Path, PathBuf};
@@ -17,16 +17,31 @@ fn changed(path: &Path) {
     println!("cargo::rerun-if-changed={}", path.display());
 }
 
-/// A variable that is set, and not empty.
+/// The folder that a variable names, where it is set, and not empty.
 fn given(name: &str) -> Option<PathBuf> {
     println!("cargo::rerun-if-env-changed={name}");
-    env::var_os(name).filter(|value| !value.is_empty()).map(PathBuf::from)
+    let folder = env::var_os(name).filter(|value| !value.is_empty()).map(PathBuf::from)?;
+    if folder.is_relative() {
+        fail(&format!("{name} is {}: give the whole path, from / on", folder.display()));
+    }
+    Some(folder)
+}
+
+/// What the library is made of: not a crate's out, where every run of `rt` writes.
+fn sources(top: &Path) {
+    changed(&top.join("crates.txt"));
+    for folder in fs::read_dir(top.join("crates")).into_iter().flatten().flatten() {
+        for part in ["src", "specs", "proofs"] {
+            let part = folder.path().join(part);
+            // cargo takes one that isn't there as changed
+            if part.is_dir() {
+                changed(&part);
+            }
+        }
+    }
 }
 
 fn library_given(folder: PathBuf) -> PathBuf {
-    if folder.is_relative() {
-        fail(&format!("CARRYFS_LIB_DIR is {}: give the whole path, from / on", folder.display()));
-    }
     if !folder.join(LIBRARY).is_file() {
         fail(&format!("CARRYFS_LIB_DIR is {}, and there is no {LIBRARY} in it", folder.display()));
     }
@@ -58,8 +73,7 @@ fn library_of_repository(top: &Path) -> PathBuf {
     if !folder.join(LIBRARY).is_file() {
         fail(&format!("no {LIBRARY} in {}; {help}", folder.display()));
     }
-    changed(&top.join("crates"));
-    changed(&top.join("crates.txt"));
+    sources(top);
     folder
 }
 
@@ -67,13 +81,18 @@ fn library_of_repository(top: &Path) -> PathBuf {
 fn reference(top: &Path) {
     // MODULE is a name in the reference's text.
     println!("cargo::rustc-check-cfg=cfg(reference, MODULE)");
-    let folder = given("CARRYFS_SRC").unwrap_or_else(|| top.join("../shared/docs/src")).join("ondisk/src");
-    let Ok(folder) = folder.canonicalize() else { return };
+    let given = given("CARRYFS_SRC");
+    let folder = given.clone().unwrap_or_else(|| top.join("../shared/docs/src")).join("ondisk/src");
     let mut text = String::new();
     for part in ["crc", "error", "format"] {
         let file = folder.join(part).with_extension("rs");
         if !file.is_file() {
-            return;
+            let Some(given) = given else { return };
+            fail(&format!(
+                "CARRYFS_SRC is {}, and {} isn't there: name the folder that holds ondisk/src of carry-fs/carryfs, or none",
+                given.display(),
+                file.display()
+            ));
         }
         changed(&file);
         text += &format!("#[path = {:?}]\npub mod {part};\n", file);
@@ -86,8 +105,9 @@ fn reference(top: &Path) {
 }
 
 fn main() {
-    if env::var("CARGO_CFG_TARGET_ARCH").as_deref() != Ok("x86_64") {
-        fail("libcarryfs.a is for x86-64 alone");
+    let target = |what| env::var(format!("CARGO_CFG_TARGET_{what}")).unwrap_or_default();
+    if target("OS") != "linux" || target("ARCH") != "x86_64" {
+        fail("libcarryfs.a is for Linux on x86-64 alone, with SSE4.2 (x86-64-v2)");
     }
     changed(Path::new("build.rs"));
     let here = env::var_os("CARGO_MANIFEST_DIR").map(PathBuf::from).unwrap_or_default();

@@ -1,6 +1,9 @@
 //! The proved reader of carryfs volumes, for Rust: safe calls over the static library libcarryfs.a, which build.rs finds or builds.
 //! Each call reads what it is lent and answers: nothing is allocated, nothing is kept, and no input makes a call panic. Every
-//! answer is the one that include/carryfs.h describes.
+//! answer is the one that the file include/carryfs.h of the project's repository describes.
+//!
+//! The library is for Linux on x86-64 with SSE4.2, that is x86-64-v2: on an older processor a call may end in an illegal
+//! instruction.
 //!
 //! ```
 //! use carryfs::{Refusal, Root, RootBlock, TreeKind, decode_page};
@@ -22,18 +25,22 @@
 //! assert_eq!(refusal.to_string(), "refused as corrupt, reason 163");
 //! ```
 #![no_std]
+#![warn(missing_docs)]
 
 use core::error::Error;
 use core::fmt;
+use core::iter::FusedIterator;
 
 mod library;
 use library::*;
 
-/// Why something is refused. docs/REASONS.md has the reasons; classes 1 and 4, and the length of a data unit, carry reason 0.
+/// Why something is refused. Classes 1 and 4, and the length of a data unit, carry reason 0; the file docs/REASONS.md of the
+/// project's repository says in words what each other reason is.
 #[derive(Clone, Copy, Debug, PartialEq, Eq, Hash)]
 pub struct Refusal {
     /// 1 geometry, 2 input (the caller's arguments), 3 corrupt, 4 unsupported; [`Refusal::NO_ANSWER`].
     pub class: u16,
+    /// The reason's number in docs/REASONS.md, or 0.
     pub reason: u16,
 }
 
@@ -141,22 +148,26 @@ pub fn validate_checksum_group(key: &[u8], value: &[u8]) -> Result<(), Refusal> 
 /// A page's block, and the generation that it was written in.
 #[derive(Clone, Copy, Debug, PartialEq, Eq, Hash)]
 pub struct TreeRef {
+    /// The block's number.
     pub block: u64,
+    /// The generation, from 1.
     pub generation: u64,
 }
 
 /// A volume's label: UTF-8, 1 to 255 bytes.
-#[derive(Clone, Copy, PartialEq, Eq)]
+#[derive(Clone, Copy, PartialEq, Eq, Hash)]
 pub struct Label {
     len: u8,
     bytes: [u8; 255],
 }
 
 impl Label {
+    /// Its bytes.
     pub fn as_bytes(&self) -> &[u8] {
         &self.bytes[..usize::from(self.len)]
     }
 
+    /// Its text.
     pub fn as_str(&self) -> &str {
         // The library is proved to accept a root only if its label is UTF-8, so the other case doesn't happen.
         core::str::from_utf8(self.as_bytes()).unwrap_or_default()
@@ -178,32 +189,49 @@ impl fmt::Display for Label {
 /// A block that may hold a root: its bytes, its number, and how many blocks the volume has.
 #[derive(Clone, Copy, Debug)]
 pub struct RootBlock<'a> {
+    /// The block's 4,096 bytes.
     pub bytes: &'a [u8],
+    /// The block's number: 256, or `blocks` - 257.
     pub slot: u64,
+    /// How many blocks the volume has.
     pub blocks: u64,
 }
 
 /// Which of two was chosen.
 #[derive(Clone, Copy, Debug, PartialEq, Eq, Hash)]
 pub enum Which {
+    /// The first.
     First,
+    /// The second.
     Second,
 }
 
 /// The fields of an accepted root.
-#[derive(Clone, Copy, Debug, PartialEq, Eq)]
+#[derive(Clone, Copy, Debug, PartialEq, Eq, Hash)]
 pub struct Root {
+    /// The volume's label, if it has one.
     pub label: Option<Label>,
+    /// The volume's UUID.
     pub uuid: [u8; 16],
+    /// The root's generation, from 1: of two roots the one with the higher counts.
     pub generation: u64,
+    /// How many blocks the volume has.
     pub blocks: u64,
+    /// The root page of the catalog.
     pub catalog: TreeRef,
+    /// The root page of the allocation tree.
     pub allocation: TreeRef,
+    /// The root page of the cleanup tree.
     pub cleanup: TreeRef,
+    /// The next object number to be given out.
     pub next_object: u64,
+    /// The free blocks, the maintenance reserve among them.
     pub free_blocks: u64,
+    /// The next job number to be given out.
     pub next_job: u64,
+    /// The root page of the workspace.
     pub workspace: TreeRef,
+    /// The workspace cursor, an allocation group.
     pub workspace_cursor: u64,
 }
 
@@ -285,24 +313,37 @@ impl Root {
 /// The tree that a page belongs to.
 #[derive(Clone, Copy, Debug, PartialEq, Eq, Hash)]
 pub enum TreeKind {
+    /// What belongs to files and directories.
     Catalog = 1,
+    /// Which blocks are taken.
     Allocation = 2,
+    /// What is left to a cleanup: retired blocks, detached trees, orphans.
     Cleanup = 3,
+    /// Blocks that are kept ready for new pages.
     Workspace = 4,
 }
 
-/// An accepted page, and its payload in the block that was lent.
-#[derive(Clone, Copy, Debug, PartialEq, Eq)]
+/// An accepted page, and its payload in the block that was lent. Its fields are public: one that is made by hand gives what its
+/// bytes give, and no more.
+#[derive(Clone, Copy, Debug, PartialEq, Eq, Hash)]
 pub struct PageView<'a> {
+    /// 0 in a leaf, 1 to 7 in a page of references to others.
     pub level: u8,
     /// The data blocks of the subtree, as the page states them; 0 outside the catalog.
     pub data_blocks: u64,
+    /// How many records there are.
     pub count: usize,
+    /// The records' bytes.
     pub payload: &'a [u8],
 }
 
 /// Checks the page that the reference names. `parent` is the generation of the page or root that holds the reference, `level` the
 /// level that the caller expects, if any.
+///
+/// For the root page of a tree, `reference`, `uuid` and `parent` are the [`Root`]'s: the tree of that kind, the UUID, and the
+/// generation; `level` is `None`. In a page of a level above 0 the value of each record is 16 bytes, a child's block and
+/// generation, each little-endian. The child is of the same kind, its `parent` is this page's generation, and its level is one
+/// less. Levels are 7 to 0, so there are at most eight pages on a way down.
 pub fn decode_page<'a>(
     bytes: &'a [u8],
     reference: TreeRef,
@@ -350,7 +391,12 @@ impl<'a> PageView<'a> {
     }
 
     /// The index of the last record whose key is not above `key`, and the records from it on. With a scratch of at least
-    /// `count` entries the records are halved, with a shorter one walked.
+    /// `count` entries the records' offsets in the payload are written over its front, and the records are halved; with a shorter
+    /// one, which stays as it was, they are walked. In a page that [`decode_page`] accepted both find the same.
+    ///
+    /// In a view made by hand a record that runs past the payload ends the walk as one above the key does; in halving its offset is
+    /// the last that is written, and none is found. In a payload of more than 65,535 bytes none is found, and the scratch stays as
+    /// it was.
     pub fn floor_record(&self, key: &[u8], scratch: &mut [u16]) -> Option<(usize, Records<'a>)> {
         let mut out = [0; CARRYFS_FLOOR_WORDS];
         // Safe: the slices live for the call; the function writes `scratch` and `out`, which overlap nothing else, within their lengths.
@@ -401,4 +447,14 @@ impl<'a> Iterator for Records<'a> {
         self.remaining = out[CARRYFS_NEXT_REMAINING] as usize;
         Some((&part[start..middle], &part[middle..end]))
     }
+
+    /// No more than are left by the page's count, nor than the bytes have room for, four or more for each. In a page that
+    /// [`decode_page`] accepted so many do come.
+    fn size_hint(&self) -> (usize, Option<usize>) {
+        (0, Some(self.remaining.min(self.part.len() / 4)))
+    }
 }
+
+// The iterator stays as it is where no record is found, so none is found from there on. It has no ExactSizeIterator: a PageView can
+// be made by hand, and there a broken record can come before as many as its count says.
+impl FusedIterator for Records<'_> {}

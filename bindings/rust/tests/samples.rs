@@ -60,6 +60,12 @@ fn the_sample_volume_is_read_from_its_roots_to_its_data() {
     let page = decode_page(block, root.catalog, &root.uuid, TreeKind::Catalog, root.generation, Some(0), root.blocks)
         .expect("the catalog");
     assert_eq!(page.records().count(), 5);
+    let mut records = page.records();
+    for left in (0..5).rev() {
+        assert!(records.next().is_some());
+        assert_eq!(records.size_hint(), (0, Some(left)));
+    }
+    assert_eq!([records.next(), records.next()], [None, None]);
     let key = group_key(0);
     for entries in [0, 4, 5, 9] {
         let (index, mut records) = page.floor_record(&key, &mut vec![0; entries]).expect("a record");
@@ -157,12 +163,27 @@ fn views_made_by_hand_are_harmless() {
             let page = PageView { level: 0, data_blocks: 0, count, payload: &payload[..length] };
             let taken: usize = page.records().take(300).map(|(key, value)| 4 + key.len() + value.len()).sum();
             assert!(taken <= length);
+            let mut records = page.records();
+            let most = records.size_hint().1.expect("a bound");
+            assert!(records.by_ref().count() <= most);
+            assert_eq!(records.next(), None);
             for key in [&[][..], &[0], &[2, 3, 4], &[255; 40]] {
                 for entries in [0, 2, 7] {
                     let found = page.floor_record(key, &mut vec![0; entries]);
                     assert!(found.is_none_or(|(index, _)| index < count));
                 }
             }
+        }
+    }
+    // In more than 65,535 bytes none is found, and the scratch is left.
+    for (length, found) in [(65_535, true), (65_536, false)] {
+        let mut payload = vec![1, 0, 0, 0, b'b'];
+        payload.resize(length, 0);
+        let page = PageView { level: 0, data_blocks: 0, count: 1, payload: &payload };
+        for entries in [0, 1] {
+            let mut scratch = vec![7; entries];
+            assert_eq!(page.floor_record(b"b", &mut scratch).is_some(), found);
+            assert_eq!(scratch, vec![if found { 0 } else { 7 }; entries]);
         }
     }
 }
