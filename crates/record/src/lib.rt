@@ -70,7 +70,7 @@ fn taken_between(bitmap: &[u8; ALLOCATION_GROUP_BYTES], start: u64, end: u64) ->
     if last <= first {
         return bits_taken(bitmap, start, end);
     }
-    let at = (first % 2048) as usize;
+    let at = first as usize % ALLOCATION_GROUP_BYTES;
     let Some(whole) = bitmap.get(at..at + (last - first) as usize) else {
         return bits_taken(bitmap, start, end);
     };
