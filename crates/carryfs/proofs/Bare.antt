@@ -21,10 +21,10 @@ slot_bare (Ok (Some w)) h = accepted h
 slot_bare (Ok None) h = accepted h
 slot_bare (Err e) h = refl
 
-unit_bare : (n : Number) → Bare (number_words n)
+number_bare : (n : Number) → Bare (number_words n)
 unfolding number_words
-unit_bare (Ok n) h = accepted h
-unit_bare (Err e) h = refl
+number_bare (Ok n) h = accepted h
+number_bare (Err e) h = refl
 
 root_bare : (d : Result Root Error) → Bare (root_words d)
 unfolding root_words
@@ -51,4 +51,4 @@ unfolding asked_page
 asked_bare bytes block generation uuid kind parent level blocks = page_bare _
 
 pub beside_refusals : BesideRefusals
-beside_refusals = record { slot = slot_bare; unit = unit_bare; root = root_bare; text = text_bare; choice = choice_bare; page = page_bare; asked = asked_bare }
+beside_refusals = record { slot = slot_bare; number = number_bare; root = root_bare; text = text_bare; choice = choice_bare; page = page_bare; asked = asked_bare }

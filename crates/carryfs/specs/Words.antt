@@ -137,7 +137,7 @@ Bare words = (get_or words 0 0 ≡ 0 → ⊥) → all_zero (drop 2 words) ≡ tr
 -- call by call (`carryfs_group` has no other words); a root's text too
 pub record BesideRefusals : Type 0 where
   pub slot : (s : Result (Option ℕ) Error) → Bare (slot_words s)
-  pub unit : (n : Number) → Bare (number_words n)
+  pub number : (n : Number) → Bare (number_words n)
   pub root : (d : Result Root Error) → Bare (root_words d)
   pub text : (d : Result Root Error) → (check_class d ≡ 0 → ⊥) → all_zero (root_text d) ≡ true
   pub choice : (s : Result Selected Error) → Bare (choice_words s)

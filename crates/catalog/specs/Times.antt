@@ -23,7 +23,7 @@ timestamp_range_demands seconds nanos mode =
 unfoldable pub validate_timestamp_range : ℤ → ℕ → Validation → Check
 validate_timestamp_range seconds nanos mode = demands (timestamp_range_demands seconds nanos mode)
 
--- READING-RULES 2: a stored word of 64 bits read as signed: from 2^63 on it stands for the word less 2^64
+-- READING-RULES 2: a stored word of 64 bits read as signed: from 2^63 on it stands for the word minus 2^64
 unfoldable pub signed_number : ℕ → ℤ
 signed_number word = cond (ltb word (2 ^ 63)) (pos word) (pos word -ℤ pos (2 ^ 64))
 

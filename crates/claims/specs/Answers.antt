@@ -1,5 +1,6 @@
 -- Demand 1: every call ends in a result, or in one return class of document 01 with its reason (01, "Return classes").
--- That each call ends, and within its bounds, is what the proof of its contract says; here, that what it answers is one of 01's table.
+-- That each call ends, and within its bounds, is what the proof of its contract says; here, that what it answers is of the classes that it can
+-- have, with a reason of 01's table; of the integer readers and a data unit, the one refusal that they have.
 use Rattle.std.specs.Prelude.{ℕ, ◌≡◌, ◌⊎◌, true, Bool, ◌&&◌, ◌||◌, List, [], ◌∷◌, leb, eqb, ℤ, Option, Result}
 use Rattle.error.specs.declared.Error.{Error}
 use Rattle.error.specs.declared.Validation.{Validation}
@@ -58,15 +59,15 @@ abbrev pub by_mode : Validation → List ℕ → List ℕ
 by_mode Input more = 0 ∷ 2 ∷ more
 by_mode Disk more = 0 ∷ 3 ∷ []
 
--- a call that goes by a mode and refuses nothing else
+-- the answers of a call that goes by a mode and meets no symlink target
 abbrev pub AnswersBy : {A : Type 0} → Validation → Result A Error → Type 0
 AnswersBy mode c = AnswersIn (by_mode mode []) c
 
--- one that may meet a symlink target too, which is too long in mode Input with class 6
+-- those of a call that may meet a symlink target, which in mode Input is refused with class 6 where it is too long
 abbrev pub TargetAnswersBy : {A : Type 0} → Validation → Result A Error → Type 0
 TargetAnswersBy mode c = AnswersIn (by_mode mode (6 ∷ [])) c
 
--- the walk, whose reads of a record's two lengths answer class 3 in every mode
+-- those of the walk, which may meet one too, and whose reads of a record's two lengths answer class 3 in every mode
 abbrev pub WalkAnswersBy : {A : Type 0} → Validation → Result A Error → Type 0
 WalkAnswersBy mode c = AnswersIn (by_mode mode (3 ∷ 6 ∷ [])) c
 
@@ -78,7 +79,7 @@ pub record RefusesAlone {A : Type 0} (class reason : ℕ) (c : Result A Error) :
 pub record Demand1 : Type 0 where
   -- "Return classes": a reason that the caller gives to an integer reader comes back unchanged with class 3
   pub read : (s : List ℕ) (offset width reason : ℕ) → RefusesAlone 3 reason (read_of s offset width reason)
-  -- section 1: the length of a data unit is refused with class 2 and reason 0, the one answer whose string isn't in the list
+  -- crc.rs, `DataUnitCrc::new`: the length of a data unit is refused with class 2 and reason 0, the one string that isn't in the list (DECISIONS 17)
   pub unit : (uuid : List ℕ) (object unit : ℕ) (valid : List ℕ) → RefusesAlone 2 0 (data_unit_crc uuid object unit valid)
   -- section 2: blocks, references and slots; and what stands beside them, UUIDs and the count of groups
   pub blocks : (blocks : ℕ) (mode : Validation) → AnswersBy mode (validate_blocks blocks mode)

@@ -1,4 +1,4 @@
--- Demand 2: what the definitions accept, with no order in it, and nothing else: plainly, but for the kinds of records, by their lists of demands.
+-- Demand 2: what the definitions accept, and nothing else, with no order in it: said plainly, of the kinds of records by their lists of demands.
 use Rattle.std.specs.Prelude.{◌≡◌, true, ◌↔◌, List, ℕ}
 use Rattle.utf8.specs.Rfc3629.{Utf8}
 use Rattle.utf8.specs.Reading.{utf8}
@@ -15,7 +15,7 @@ use Rattle.lookup.specs.Sorted.{FloorIsTheLast, WalkingIsHalving}
 pub record Demand2 : Type 0 where
   -- a text is UTF-8 exactly when it is a sequence of RFC 3629's alternatives
   pub texts : (s : List ℕ) → (utf8 s ≡ true) ↔ Utf8 s
-  -- section 3: labels, roots, and the choice of two: of one UUID, and of one generation only if they are the same in every field
+  -- section 3: labels, roots, and which of two roots is chosen, if any
   pub labels : LabelExactly
   pub roots : RootExactly
   pub choice : ChoiceExactly

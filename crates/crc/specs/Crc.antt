@@ -12,7 +12,7 @@ polynomial = 0x82F63B78
 abbrev pub ones : ℕ
 ones = 0xFFFFFFFF
 
--- crc.rs, `CRC_TABLES` and the last line of `software_extend`: the lowest bit leaves the register, and takes the polynomial with it if it is 1; a step of RFC 3720's division
+-- crc.rs, `CRC_TABLES`: the lowest bit leaves the register, and takes the polynomial with it if it is 1; a step of RFC 3720's division
 unfoldable pub step_bit : ℕ → ℕ
 step_bit register = bit_xor (register / 2) (register % 2 * polynomial)
 
@@ -21,7 +21,7 @@ unfoldable pub step_bits : ℕ → ℕ → ℕ
 step_bits zero register = register
 step_bits (suc n) register = step_bits n (step_bit register)
 
--- crc.rs, `CRC_TABLES`: a byte goes into the register's low bits, and eight steps follow; so its lowest bit is first (RFC 3720, section 12.1)
+-- crc.rs, `CRC_TABLES` and the end of `software_extend`: a byte goes into the register's low bits, and eight steps follow; so its lowest bit is first (RFC 3720, section 12.1)
 unfoldable pub step_byte : ℕ → ℕ → ℕ
 step_byte register byte = step_bits 8 (bit_xor register byte)
 

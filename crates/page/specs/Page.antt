@@ -24,7 +24,7 @@ context kind blocks page = record {
   mode = Disk;
 }
 
--- `decode_page`, READING-RULES 8.2: the walk: lent the block from byte 80 on, it answers a leaf's total, 0 for an internal page
+-- `validate_records`, lent the block from byte 80 on (DECISIONS 15): the walk; it answers a leaf's total, 0 for an internal page
 unfoldable pub validate_page_records : TreeKind → ℕ → List ℕ → Number
 validate_page_records kind blocks page = validate_records (drop 80 page) (payload_length page) (count page) (context kind blocks page)
 

@@ -12,18 +12,18 @@ use Rattle.root.specs.declared.Label.{Label}
 use Rattle.root.specs.declared.Root.{Root}
 use Rattle.root.specs.declared.Selected.{Selected}
 
--- the derived equality of the Rust's Root: two labels: none and none, or length and all 255 bytes the same
+-- the Rust's derived equality of `Option<Label>`: none and none, or length and all 255 bytes the same
 abbrev pub same_label : Option Label → Option Label → Bool
 same_label (Some a) (Some b) = eqb a.len b.len && same_bytes a.bytes b.bytes
 same_label (Some a) None = false
 same_label None (Some b) = false
 same_label None None = true
 
--- the derived equality of the Rust's Root: two references: block and generation are the same
+-- that of `TreeRef`: block and generation are the same
 abbrev pub same_ref : TreeRef → TreeRef → Bool
 same_ref a b = eqb a.block b.block && eqb a.generation b.generation
 
--- the derived equality of the Rust's Root: every field the same
+-- that of `Root`: every field the same
 unfoldable pub same_root : Root → Root → Bool
 same_root a b =
     same_label a.label b.label

@@ -3,7 +3,7 @@
 use Rattle.std.specs.Prelude.{ℕ, ◌+◌, ◌-◌, ◌/◌, ◌≤◌, ◌<◌, min, ◌≡◌, cond, List, eqb, leb, length, take, drop, ◌≢◌, IfSome, Result, Ok, Err, Option, Some, None, ⊤, ◌++◌, ◌∷◌, []}
 use Rattle.std.specs.Io.KnownBytes.{Appends, Consumes, IsAtEnd, Keeps}
 
--- what a read behind the first `have` of `size` bytes answers: no byte is the end, a number at most the room that came, a failure is one
+-- what a read behind the first `have` of `size` bytes means: without room, or with no byte, none came; else as many as it says, at most the room; a failure is one
 unfoldable pub read_of : {E : Type 0} → ℕ → ℕ → Result ℕ E → Result (Option ℕ) E
 read_of size have (Ok k) = cond (leb size have) (Ok None) (cond (eqb k 0) (Ok None) (Ok (Some (have + min k (size - have)))))
 read_of size have (Err e) = cond (leb size have) (Ok None) (Err e)
@@ -27,7 +27,7 @@ pub record ReadBehind {E : Type 0} (left rest : Option (List ℕ)) (before : Lis
   pub size : length after ≡ length before
   pub taken : Took left rest (length before) have after r
 
--- a lent buffer that was to be filled: the bytes that came are just those that the reader lost, and where one is missing it is at its end
+-- a lent buffer that was to be filled: what came is just what the reader lost, it is at its end where a byte is missing; nothing fails where there is nothing to fill
 pub record FilledBy {E : Type 0} (left rest : Option (List ℕ)) (before after : List ℕ) (r : Result ℕ E) : Type 0 where
   pub came : (n : ℕ) → r ≡ Ok n → n ≤ length before
   pub failed : (e : E) → r ≡ Err e → 0 < length before

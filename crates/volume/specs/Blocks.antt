@@ -5,7 +5,7 @@ use Rattle.std.specs.Prelude.{ℕ, ◌+◌, ◌-◌, Bool, ◌&&◌, ◌||◌, l
 unfoldable pub is_nonreserved_block : ℕ → ℕ → Bool
 is_nonreserved_block block blocks = leb 512 block && leb 1024 blocks && ltb block (blocks - 512)
 
--- `validate_extent`, READING-RULES 9.4: so many blocks from the first on: the first is non-reserved, and they end by B - 512
+-- `validate_extent`, `validate_cleanup_key_value`, READING-RULES 9.4 and 12.2: so many blocks from the first on: the first is non-reserved, and they end by B - 512
 unfoldable pub is_nonreserved_run : ℕ → ℕ → ℕ → Bool
 is_nonreserved_run first count blocks = is_nonreserved_block first blocks && leb (first + count) (blocks - 512)
 

@@ -48,7 +48,7 @@ pub record Read (payload : List ℕ) (count : ℕ) : Type 0 where
 abbrev pub numbers : Own → List Entry → List ℕ
 numbers own es = map (λ (e : Entry). number_of (own e.key e.value)) es
 
--- an accepted walk, plainly: such entries, each of which passes its own rules; a leaf's answer is their sum, below 2^64; children's blocks differ
+-- an accepted walk, plainly: such entries, each passing its own rules; a leaf's answer is the sum of their counts, below 2^64, an internal page's 0, and no two children have one block
 pub record Walked (leaf : Bool) (own : Own) (rest : List ℕ) (payload_length count total : ℕ) : Type 0 where
   pub inside : payload_length ≤ length rest
   pub read : Read (take payload_length rest) count

@@ -105,7 +105,7 @@ unfoldable pub records : Bool → Validation → Own → List ℕ → ℕ → �
 records leaf mode own rest payload_length count =
     outcome (size_demands rest payload_length count mode) (walk leaf mode own count rest payload_length [] 0 [])
 
--- READING-RULES 8.2: page kind 1 is a leaf; any other counts as internal
+-- `validate_records`: page kind 1 is a leaf; any other counts as internal
 abbrev pub is_leaf : RecordValidation → Bool
 is_leaf c = eqb c.page_kind 1
 
