@@ -5,7 +5,7 @@ use crate::minimise;
 use crate::program::{Difference, Kind, Output, Program, differences, run as run_program};
 use crate::random::Random;
 use crate::table::Table;
-use crate::{exhaustive, generate, oracle, readback};
+use crate::{borders, exhaustive, generate, oracle, readback};
 use std::collections::HashMap;
 use std::sync::Arc;
 use std::thread::JoinHandle;
@@ -108,12 +108,16 @@ fn fixed_batches(kind: Kind, seed: u64) -> Vec<Batch> {
     let mut batches = vec![Batch::default()];
     let mut current = Batch::default();
     match kind {
-        Kind::Probe => exhaustive::all(&mut |call| {
-            current.push(kind, &call);
-            if current.is_full(kind) {
-                batches.push(std::mem::take(&mut current));
-            }
-        }),
+        Kind::Probe => {
+            let mut each = |call: Call| {
+                current.push(kind, &call);
+                if current.is_full(kind) {
+                    batches.push(std::mem::take(&mut current));
+                }
+            };
+            exhaustive::all(&mut each);
+            borders::all(&mut each);
+        }
         Kind::Readback => {}
     }
     batches.push(current);

@@ -1,5 +1,6 @@
 //! Compares the programs `probe` and `readback` with the reference (README.md beside this folder).
 
+mod borders;
 mod call;
 mod compare;
 mod exhaustive;

@@ -33,7 +33,7 @@ fn checksum_at(no: u8) -> Option<usize> {
     }
 }
 
-fn sealed(mut call: Call) -> Option<Call> {
+pub fn sealed(mut call: Call) -> Option<Call> {
     let at = checksum_at(call.no)?;
     for text in &mut call.texts {
         if let Ok(block) = (&mut text[..]).try_into() {

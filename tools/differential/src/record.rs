@@ -6,7 +6,7 @@ use crate::pages;
 use crate::program::Kind;
 use crate::random::Random;
 use crate::table::hash;
-use crate::{exhaustive, generate, readback, reasons, roots};
+use crate::{borders, exhaustive, generate, readback, reasons, roots};
 use std::collections::{BTreeMap, BTreeSet};
 use std::fmt::Write;
 use std::path::Path;
@@ -206,7 +206,8 @@ pub fn run(dir: &str, seed: u64, count: u64) -> Result<bool, String> {
         file(&format!("{name}.stdin"), input)?;
         file(&format!("{name}.stdout"), &output)
     };
-    let calls = concatenated(&fixed, &probe);
+    let mut calls = concatenated(&fixed, &probe);
+    borders::all(&mut |call| call.write(&mut calls));
     let body_bytes = concatenated(b"", &bodies);
     write(Kind::Probe, "probe", &calls)?;
     write(Kind::Readback, "readback", &body_bytes)?;

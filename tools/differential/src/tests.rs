@@ -3,7 +3,8 @@
 use crate::call::{self, Call};
 use crate::listed::{self, LISTED};
 use crate::random::Random;
-use crate::{oracle, readback};
+use crate::{borders, oracle, readback};
+use std::collections::HashSet;
 use std::panic::{AssertUnwindSafe, catch_unwind};
 
 /// The fields that the oracle prints for one call.
@@ -242,5 +243,57 @@ fn listed_differences_differ() {
             39 => assert_ne!(rust.unwrap(), ours),
             _ => assert!(rust.is_err()),
         }
+    }
+}
+
+/// The calls of borders are within the limits and answered without panic, each comes once, and they stay few.
+#[test]
+fn borders_are_answered() {
+    let mut seen = HashSet::new();
+    borders::all(&mut |call| {
+        assert!(call.within_limits(), "call {}", call.no);
+        borders::verdict(&call);
+        let mut bytes = Vec::new();
+        call.write(&mut bytes);
+        assert!(seen.insert(bytes), "call {} comes twice", call.no);
+    });
+    let sum: usize = seen.iter().map(Vec::len).sum();
+    assert!(sum < 1_100_000, "{sum} bytes");
+}
+
+/// In each form of a reference, a record, a root or a page the good call is accepted, and of each field something is refused.
+#[test]
+fn borders_have_two_sides() {
+    let accepted = Some((0, 0));
+    for form in borders::forms() {
+        if !matches!(form.good.no, 17..=29 | 34 | 36) {
+            continue;
+        }
+        assert_eq!(borders::verdict(&form.good), accepted, "{}", form.name);
+        for (place, field) in form.fields.iter().enumerate() {
+            let verdicts: Vec<_> = form.singles(place).iter().map(borders::verdict).collect();
+            let refused = verdicts.iter().any(|verdict| *verdict != accepted);
+            assert!(refused, "{}, call {}: {} is never refused", form.name, form.good.no, field.name);
+        }
+    }
+}
+
+/// Where a fault stands with the next one only, the fields are in the order of their tests: the first fault is told.
+#[test]
+fn borders_are_in_order() {
+    for form in borders::forms().iter().filter(|form| form.pairs == borders::Pairs::Next) {
+        for (call, alone) in form.chained() {
+            assert_eq!(borders::verdict(&call), alone, "{}, call {}", form.name, form.good.no);
+        }
+    }
+}
+
+/// Every call with more than one test has calls with two faults.
+#[test]
+fn borders_put_two_faults_together() {
+    let forms = borders::forms();
+    let pairs = |no: u8| forms.iter().filter(|form| form.good.no == no).map(|form| form.paired().len()).sum::<usize>();
+    for no in (17..=20).chain(22..=29) {
+        assert!(pairs(no) > 0, "call {no}");
     }
 }
