@@ -41,7 +41,7 @@ selected_bare call = which_bare _
 listed_bare : (n : Numbers) (a b : List ℕ) → OfEach (λ call. Bare (fields_of call n a b)) classed
 unfolding fields_of fields_in word_rows octet_rows block_rows inode_rows entry_rows record_rows root_rows page_rows
 listed_bare n a b =
-    let number = beside_refusals.unit in (
+    let number = beside_refusals.number in (
       number _,
       (
         number _,
