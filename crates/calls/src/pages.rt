@@ -46,8 +46,8 @@ fn told_draft(page: Result<Page, Error>) -> Fields
 }
 
 // Kept: what is asked of a page is spelt out here, in `verified_page_view` and in lookups `handed_fields`. The lists of page and hand are
-// those of the Rust, so each would begin with `let (reference, id, kind, parent, expected) = asked(n, uuid);` and hand the five on one by
-// one all the same.
+// those of the Rust, so each would take the reference, the UUID, the kind, the parent's generation and the level from a function of their
+// own, and hand the five on one by one all the same.
 #[tactic(auto, unfolding(crate::specs::Told::at_most, crate::specs::Table::page_asked))]
 fn decode_page(n: Numbers, uuid: &[u8], page: &[u8]) -> Result<Page, Error>
     ensures { result ≡ page_asked n uuid.now page.now }
