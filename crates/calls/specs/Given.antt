@@ -1,5 +1,5 @@
--- A call's bytes (docs/PROBE.md): its number, then its numbers, eight bytes each, then its strings, each behind its length of four bytes; integers little-endian. And the numbers that calls 41 and 43 tell.
-use Rattle.std.specs.Prelude.{ℕ, ◌+◌, ◌*◌, cond, List, [], ◌∷◌, eqb, drop, replicate, Option, Some, None, Result, Ok, Err}
+-- A call's bytes (docs/PROBE.md): its number, then its numbers, eight bytes each, then its strings, each behind its length of four bytes; integers little-endian. And the numbers that call 41 tells, and what call 43 asks.
+use Rattle.std.specs.Prelude.{ℕ, ◌+◌, ◌*◌, cond, List, [], ◌∷◌, eqb, drop, Option, Some, None, Result, Ok, Err}
 use Rattle.error.specs.declared.Error.{Error}
 use Rattle.error.specs.Answer.{class_of, reason_of}
 use Rattle.octets.specs.Bytes.{padded_to}
@@ -10,8 +10,6 @@ use Rattle.root.specs.declared.Label.{Label}
 use Rattle.root.specs.declared.Root.{Root}
 use Rattle.root.specs.declared.Selected.{Selected}
 use Rattle.root.specs.Select.{select_root}
-use Rattle.hand.specs.declared.Given.{Given}
-use Rattle.hand.specs.declared.First.{First}
 use Rattle.hand.specs.declared.Handed.{Handed}
 use Rattle.hand.specs.Hand.{hand_out}
 use Rattle.calls.specs.declared.Numbers.{Numbers}
@@ -76,18 +74,3 @@ selected_fields input =
 unfoldable pub hand_asked : Numbers → List ℕ → List ℕ → List ℕ → ℕ → Result Handed Error
 hand_asked n uuid page key entries =
     hand_out (reference_to n.a n.b) (padded_to 16 uuid) (tree_kind_of n.c) n.d (expected_of (at_most 255 n.e)) n.f page key entries
-
--- of so many records from the found one on: whether one is given, its key's length and checksum, its value's, how many are left after it; without one as many as before
-abbrev pub given_fields : ℕ → Option Given → List ℕ
-given_fields left (Some g) = 1 ∷ g.key_len ∷ g.key_sum ∷ g.value_len ∷ g.value_sum ∷ g.left ∷ []
-given_fields left None = 0 ∷ 0 ∷ 0 ∷ 0 ∷ 0 ∷ left ∷ []
-
--- whether a record is found, its index, how many there are from it on, and of the first of them as above
-abbrev pub first_fields : Option First → List ℕ
-first_fields (Some f) = 1 ∷ f.index ∷ f.remaining ∷ given_fields f.remaining f.given
-first_fields None = replicate 9 0
-
--- class, reason, level, total and count of the view, and what the lookup finds
-unfoldable pub handed_fields : Result Handed Error → List ℕ
-handed_fields (Ok h) = 0 ∷ 0 ∷ h.level ∷ h.data_blocks ∷ h.count ∷ first_fields h.first
-handed_fields (Err e) = class_of e ∷ reason_of e ∷ replicate 12 0

@@ -1,4 +1,5 @@
 pub mod Told
+pub mod Pieces
 pub mod Table
 pub mod Given
 pub mod Refusals

@@ -8,7 +8,7 @@ use Rattle.calls.specs.Given.{selected_fields}
 -- the calls of the table whose fields start with class and reason
 abbrev pub classed : List ℕ
 classed =
-    5 ∷ 8 ∷ 9 ∷ 10 ∷ 16 ∷ 17 ∷ 18 ∷ 19 ∷ 20 ∷ 21 ∷ 22 ∷ 23 ∷ 24 ∷ 25 ∷ 26 ∷ 27 ∷ 28 ∷ 29 ∷ 30 ∷ 35 ∷ 36 ∷ 37 ∷ 38 ∷ 42 ∷ []
+    5 ∷ 8 ∷ 9 ∷ 10 ∷ 16 ∷ 17 ∷ 18 ∷ 19 ∷ 20 ∷ 21 ∷ 22 ∷ 23 ∷ 24 ∷ 25 ∷ 26 ∷ 27 ∷ 28 ∷ 29 ∷ 30 ∷ 35 ∷ 36 ∷ 37 ∷ 38 ∷ 42 ∷ 44 ∷ []
 
 -- a claim on a call holds of each of the list
 abbrev pub OfEach : (ℕ → Type 0) → List ℕ → Type 0

@@ -1,9 +1,9 @@
 -- The calls of docs/PROBE.md whose fields are a few numbers, in the order of their numbers. n is a call's numbers, a and b its strings.
 use Rattle.std.specs.Prelude.{ℕ, List, [], ◌∷◌, ◌++◌, replicate, Result}
 use Rattle.error.specs.declared.Error.{Error}
-use Rattle.error.specs.Answer.{Number}
+use Rattle.error.specs.Answer.{Number, flag, check_words, number_words}
 use Rattle.octets.specs.Bytes.{all_zero, padded_to}
-use Rattle.octets.specs.Order.{order}
+use Rattle.octets.specs.Order.{order, order_words}
 use Rattle.octets.specs.Reads.{read_of}
 use Rattle.crc.specs.Crc.{extend, crc32c, crc32c_with_zero}
 use Rattle.crc.specs.DataUnit.{data_unit_crc}
@@ -17,18 +17,21 @@ use Rattle.catalog.specs.Inode.{validate_inode, validate_symlink_target}
 use Rattle.catalog.specs.Entry.{validate_directory_entry}
 use Rattle.catalog.specs.Extent.{validate_extent}
 use Rattle.group.specs.Group.{checksum_slot, validate_checksum_group}
+use Rattle.group.specs.Slots.{slot_words}
 use Rattle.record.specs.Leaf.{validate_leaf_record, leaf_record_blocks}
-use Rattle.record.specs.Internal.{validate_internal_record}
+use Rattle.record.specs.Internal.{validate_internal_record, child_words}
 use Rattle.lookup.specs.Floor.{next_record}
 use Rattle.walk.specs.Records.{validate_records}
 use Rattle.page.specs.declared.Page.{Page}
 use Rattle.page.specs.Header.{expected_of}
-use Rattle.page.specs.Page.{decode_page}
+use Rattle.page.specs.Page.{decode_page, page_words}
 use Rattle.page.specs.Unchecked.{verified_page_view, draft_page_view}
 use Rattle.root.specs.Select.{choose_root}
-use Rattle.carryfs.specs.Words.{flag, check_words, number_words, slot_words, slot_root, choice_words, page_words}
+use Rattle.root.specs.Words.{choice_words}
+use Rattle.carryfs.specs.Words.{slot_root}
 use Rattle.calls.specs.declared.Numbers.{Numbers}
-use Rattle.calls.specs.Told.{at_most, mode_of, reference_to, order_number, child_fields, group_fields, front_fields, step_fields, draft_fields, Row, ◌tells◌, fields_in}
+use Rattle.calls.specs.Pieces.{pieces_asked}
+use Rattle.calls.specs.Told.{at_most, mode_of, reference_to, group_fields, front_fields, step_fields, draft_fields, Row, ◌tells◌, fields_in}
 
 -- class, reason, the word of a data unit
 abbrev pub unit_fields : Numbers → List ℕ → List ℕ → List ℕ
@@ -52,7 +55,7 @@ octet_rows n a b =
     ∷ 8 tells number_words (read_of a n.a 2 (at_most 65535 n.b))
     ∷ 9 tells number_words (read_of a n.a 4 (at_most 65535 n.b))
     ∷ 10 tells number_words (read_of a n.a 8 (at_most 65535 n.b))
-    ∷ 11 tells (order_number (order a b) ∷ [])
+    ∷ 11 tells order_words (order a b)
     ∷ []
 
 -- calls 12 to 19: blocks, groups, references and slots
@@ -93,7 +96,7 @@ entry_rows n a b =
 unfoldable pub record_rows : Numbers → List ℕ → List ℕ → List Row
 record_rows n a b =
     27 tells number_words (validate_leaf_record (tree_kind_of n.a) a b n.b n.c (mode_of n.d))
-    ∷ 28 tells child_fields (validate_internal_record (tree_kind_of n.a) a b n.b n.c (mode_of n.d))
+    ∷ 28 tells child_words (validate_internal_record (tree_kind_of n.a) a b n.b n.c (mode_of n.d))
     ∷ 29 tells number_words (leaf_record_blocks (tree_kind_of n.a) a b n.b n.c)
     ∷ 30 tells slot_words (checksum_slot a n.a)
     ∷ 31 tells front_fields a
@@ -136,6 +139,12 @@ page_rows n a b =
     ∷ 42 tells number_words (walked_records n a)
     ∷ []
 
+-- call 44: a data unit in pieces
+unfoldable pub piece_rows : Numbers → List ℕ → List ℕ → List Row
+piece_rows n a b =
+    44 tells number_words (pieces_asked n a b)
+    ∷ []
+
 -- all of them
 abbrev pub table : Numbers → List ℕ → List ℕ → List Row
 table n a b =
@@ -146,7 +155,8 @@ table n a b =
     ++ (entry_rows n a b
     ++ (record_rows n a b
     ++ (root_rows n a b
-    ++ page_rows n a b))))))
+    ++ (page_rows n a b
+    ++ piece_rows n a b)))))))
 
 -- the fields of a call of the table; of another, none
 unfoldable pub fields_of : ℕ → Numbers → List ℕ → List ℕ → List ℕ

@@ -6,8 +6,6 @@ use Rattle.error.specs.declared.Error.{Error}
 use Rattle.error.specs.declared.Validation.{Validation}
 use Rattle.error.specs.declared.Validation.TheVariants.{Input, Disk}
 use Rattle.error.specs.Answer.{class_of, reason_of}
-use Rattle.std.specs.declared.cmp.Ordering.{Ordering}
-use Rattle.std.specs.declared.cmp.Ordering.TheVariants.{Less, Equal, Greater}
 use Rattle.volume.specs.declared.GroupBlocks.{GroupBlocks}
 use Rattle.volume.specs.declared.TreeRef.{TreeRef}
 use Rattle.group.specs.Group.{compact_bytes}
@@ -37,21 +35,6 @@ abbrev pub reference_to : ℕ → ℕ → TreeRef
 reference_to block generation = record { block = block; generation = generation }
 
 -- ---- fields
-
--- the bytewise order: 0 a before b, 1 equal, 2 a after b
-abbrev pub order_number : Ordering → ℕ
-order_number Less = 0
-order_number Equal = 1
-order_number Greater = 2
-
--- class, reason, and two fields of 0
-abbrev pub refused_fields : Error → List ℕ
-refused_fields e = class_of e ∷ reason_of e ∷ 0 ∷ 0 ∷ []
-
--- class, reason, block and generation of the page that a record names
-abbrev pub child_fields : Result TreeRef Error → List ℕ
-child_fields (Ok r) = 0 ∷ 0 ∷ r.block ∷ r.generation ∷ []
-child_fields (Err e) = refused_fields e
 
 -- a group's reserved blocks at its low end and at its high end, each as start and end
 abbrev pub group_fields : GroupBlocks → List ℕ

@@ -6,6 +6,7 @@ pub mod choice;
 pub mod lookups;
 mod octet;
 mod pages;
+mod pieces;
 mod records;
 mod tell;
 mod words;
@@ -75,7 +76,7 @@ pub fn numbers_of(input: &[u8]) -> Numbers
 }
 
 // The fields of a call that the table has; another has none.
-// Kept: the number, a byte of probe's protocol, is matched here and again in each part: one match of these calls has 38 arms, and with the
+// Kept: the number, a byte of probe's protocol, is matched here and again in each part: one match of these calls has 39 arms, and with the
 // signature more than the 40 lines that a function may have. So each part answers for every number, by an arm `_ => told([])`, as the rows
 // of specs/Table do; where its calls are all of its range no call comes there.
 // Kept: a call's number, its numbers and its strings go one by one: each part is lent what its calls take (`blocks` no string, `answer_inode`
@@ -92,6 +93,7 @@ pub fn fields_of(call: u8, n: Numbers, a: &[u8], b: &[u8]) -> Fields
         24..=26 => records::answer_entry(call, n, a, b),
         27..=31 => records::answer_record(call, n, a, b),
         32..=35 => choice::answer(call, n, a, b),
-        _ => pages::answer(call, n, a, b),
+        36..=43 => pages::answer(call, n, a, b),
+        _ => pieces::answer(call, n, a, b),
     }
 }

@@ -1,10 +1,9 @@
 // Calls 39 and 43: lookups, over the records and over a page's view.
 ghost use Rattle.std.specs.Prelude.{◌≡◌, length};
-ghost use Rattle.lookup.specs.Floor.{floor_answer, scratch_of};
-ghost use Rattle.hand.specs.Hand.{scratch_in};
-ghost use Rattle.carryfs.specs.Words.{floor_words};
+ghost use Rattle.lookup.specs.Floor.{floor_answer, floor_words, scratch_of};
+ghost use Rattle.hand.specs.Hand.{scratch_in, given_words, first_words, handed_words};
 ghost use Rattle.calls.specs.Table.{page_asked};
-ghost use Rattle.calls.specs.Given.{given_fields, first_fields, handed_fields, hand_asked};
+ghost use Rattle.calls.specs.Given.{hand_asked};
 
 use crate::tell::told;
 use crate::{Fields, Numbers, reference, within};
@@ -21,7 +20,7 @@ pub fn floor_fields(n: Numbers, payload: &[u8], key: &[u8], scratch: &mut [u16])
 
 // Of so many records: whether one is given, of its key and its value the lengths and checksums, how many are left.
 fn given_numbers(left: usize, given: Option<Given>) -> [u64; 6]
-    ensures { result ≡ given_fields left given }
+    ensures { result ≡ given_words left given }
 {
     match given {
         Some(g) => [
@@ -37,8 +36,9 @@ fn given_numbers(left: usize, given: Option<Given>) -> [u64; 6]
 }
 
 // Whether a record is found, its index, how many there are from it on, and the first of them.
+#[tactic(auto, unfolding(hand::specs::Hand::first_words))]
 fn first_numbers(first: Option<First>) -> [u64; 9]
-    ensures { result ≡ first_fields first }
+    ensures { result ≡ first_words first }
 {
     let Some(f) = first else {
         return [0; 9];
@@ -58,9 +58,9 @@ fn first_numbers(first: Option<First>) -> [u64; 9]
 }
 
 // What the view states, and what the lookup finds.
-#[tactic(auto, unfolding(crate::specs::Given::handed_fields))]
+#[tactic(auto, unfolding(hand::specs::Hand::first_words, hand::specs::Hand::handed_words))]
 fn handed_numbers(handed: Result<Handed, Error>) -> [u64; 14]
-    ensures { result ≡ handed_fields handed }
+    ensures { result ≡ handed_words handed }
 {
     match handed {
         Ok(h) => {
@@ -105,7 +105,7 @@ pub fn handed_fields(
     key: &[u8],
     scratch: &mut [u16],
 ) -> [u64; 14]
-    ensures value { result ≡ handed_fields (hand_asked n uuid.now page.now key.now (length scratch.old)) }
+    ensures value { result ≡ handed_words (hand_asked n uuid.now page.now key.now (length scratch.old)) }
     ensures scratch_after { scratch.new ≡ scratch_in (page_asked n uuid.now page.now) page.now scratch.old }
 {
     let id = octets::padded::<16>(uuid);

@@ -1,15 +1,16 @@
 // Calls 6 to 11: UTF-8, zeros, stored numbers, bytewise order.
-ghost use Rattle.std.specs.Prelude.{◌≡◌, [], ◌∷◌};
-ghost use Rattle.carryfs.specs.Words.{number_words};
-ghost use Rattle.calls.specs.Told.{order_number, fields_in};
+ghost use Rattle.std.specs.Prelude.{◌≡◌};
+ghost use Rattle.octets.specs.Order.{order_words};
+ghost use Rattle.calls.specs.Told.{fields_in};
 ghost use Rattle.calls.specs.Table.{octet_rows};
 
 use crate::tell::{bit, number, told};
 use crate::{Fields, Numbers, within};
 use std::cmp::Ordering;
 
+#[tactic(auto, unfolding(octets::specs::Order::order_words))]
 fn order(order: Ordering) -> Fields
-    ensures { result ≡ order_number order ∷ [] }
+    ensures { result ≡ order_words order }
 {
     match order {
         Ordering::Less => told([0]),

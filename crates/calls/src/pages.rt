@@ -1,6 +1,7 @@
 // Calls 36 to 38, 40 and 42: pages and their records.
 ghost use Rattle.std.specs.Prelude.{◌≡◌};
-ghost use Rattle.carryfs.specs.Words.{page_words, number_words};
+ghost use Rattle.error.specs.Answer.{number_words};
+ghost use Rattle.page.specs.Page.{page_words};
 ghost use Rattle.calls.specs.Told.{fields_in, step_fields, draft_fields};
 ghost use Rattle.calls.specs.Table.{page_rows, page_asked, view_asked, walked_records};
 

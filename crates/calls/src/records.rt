@@ -1,7 +1,8 @@
 // Calls 20 to 31: records and checksum groups.
 ghost use Rattle.std.specs.Prelude.{◌≡◌};
-ghost use Rattle.carryfs.specs.Words.{slot_words};
-ghost use Rattle.calls.specs.Told.{fields_in, child_fields, front_fields};
+ghost use Rattle.group.specs.Slots.{slot_words};
+ghost use Rattle.record.specs.Internal.{child_words};
+ghost use Rattle.calls.specs.Told.{fields_in, front_fields};
 ghost use Rattle.calls.specs.Table.{time_fields, inode_rows, entry_rows, record_rows};
 
 use crate::tell::{check, number, told};
@@ -9,8 +10,9 @@ use crate::{Fields, Numbers, mode, within};
 use error::Error;
 use volume::TreeRef;
 
+#[tactic(auto, unfolding(record::specs::Internal::child_words))]
 fn child(answer: Result<TreeRef, Error>) -> Fields
-    ensures { result ≡ child_fields answer }
+    ensures { result ≡ child_words answer }
 {
     match answer {
         Ok(r) => told([0, 0, r.block, r.generation]),

@@ -1,6 +1,6 @@
 // The fields of most calls: up to seven numbers.
 ghost use Rattle.std.specs.Prelude.{◌≡◌, [], ◌∷◌, ◌≤◌};
-ghost use Rattle.carryfs.specs.Words.{flag, check_words, number_words};
+ghost use Rattle.error.specs.Answer.{flag, check_words, number_words};
 
 use error::Error;
 use std::marker::Model;

@@ -5,18 +5,22 @@ use mathlib.Core.Bool.{true}
 use Prim.Native.Nat.{ℕ}
 use Rattle.std.specs.Prelude.{Option, Some, None, Result, Ok, Err}
 use Rattle.error.specs.declared.Error.{Error}
-use Rattle.error.specs.Answer.{Number, check_class}
+use Rattle.error.specs.Answer.{Number, check_class, number_words}
 use Rattle.octets.specs.Bytes.{all_zero}
 use Rattle.page.specs.declared.Page.{Page}
 use Rattle.root.specs.declared.Root.{Root}
 use Rattle.root.specs.declared.Selected.{Selected}
-use Rattle.carryfs.specs.Words.{slot_words, number_words, root_words, root_text, choice_words, page_words, asked_page, Bare, BesideRefusals}
+use Rattle.group.specs.Slots.{slot_words}
+use Rattle.page.specs.Page.{page_words}
+use Rattle.root.specs.Words.{root_words, root_text, choice_words}
+use Rattle.carryfs.specs.Words.{asked_page, Bare, BesideRefusals}
 
 -- an accepted answer has class 0
 accepted : {P : Type 0} → (◌≡◌ {A = ℕ} 0 0 → ⊥) → P
 accepted h = absurd (h refl)
 
 slot_bare : (s : Result (Option ℕ) Error) → Bare (slot_words s)
+unfolding slot_words
 slot_bare (Ok (Some w)) h = accepted h
 slot_bare (Ok None) h = accepted h
 slot_bare (Err e) h = refl

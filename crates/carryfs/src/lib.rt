@@ -2,8 +2,12 @@
 #![tactic(auto)]
 
 ghost use Rattle.std.specs.Prelude.{◌≡◌, ◌++◌};
-ghost use Rattle.root.specs.Root.{root_decode};
-ghost use Rattle.carryfs.specs.Words.{refused_words, slot_words, check_words, number_words, floor_words, step_words, label_len, label_bytes, root_words, root_text, slot_root, choice_words, page_words};
+ghost use Rattle.error.specs.Answer.{check_words, number_words};
+ghost use Rattle.group.specs.Slots.{slot_words};
+ghost use Rattle.lookup.specs.Floor.{floor_words, step_words};
+ghost use Rattle.page.specs.Page.{page_words};
+ghost use Rattle.root.specs.Words.{label_len, label_bytes, root_words, root_text, choice_words, supported_words};
+ghost use Rattle.carryfs.specs.Words.{refused_words, slot_root};
 
 use error::Error;
 use lookup::{Answer, Step};
@@ -25,6 +29,7 @@ pub fn refused<const N: usize>(e: Error) -> [u64; N]
 }
 
 // A slot of a checksum group: class, reason, whether there is a word, the word.
+#[tactic(auto, unfolding(group::specs::Slots::slot_words))]
 pub fn slot_words(slot: Result<Option<u32>, Error>) -> [u64; 4]
     ensures { result ≡ slot_words slot }
 {
@@ -36,6 +41,7 @@ pub fn slot_words(slot: Result<Option<u32>, Error>) -> [u64; 4]
 }
 
 // A check: class and reason.
+#[tactic(auto, unfolding(error::specs::Answer::check_words))]
 pub fn check_words(check: Result<(), Error>) -> [u64; 2]
     ensures { result ≡ check_words check }
 {
@@ -46,7 +52,7 @@ pub fn check_words(check: Result<(), Error>) -> [u64; 2]
 }
 
 // A check that gives a number: class, reason, the number.
-#[tactic(auto, unfolding(crate::specs::Words::number_words))]
+#[tactic(auto, unfolding(error::specs::Answer::number_words))]
 pub fn number_words(sum: Result<u64, Error>) -> [u64; 3]
     ensures { result ≡ number_words sum }
 {
@@ -57,7 +63,7 @@ pub fn number_words(sum: Result<u64, Error>) -> [u64; 3]
 }
 
 // The record at the front of a part with so many records left: whether there is one, its key's start and end, its value's end, how many are left.
-#[tactic(auto, unfolding(crate::specs::Words::step_words))]
+#[tactic(auto, unfolding(lookup::specs::Floor::step_words))]
 pub fn step_words(left: usize, step: Option<Step>) -> [u64; 5]
     ensures { result ≡ step_words left step }
 {
@@ -74,7 +80,7 @@ pub fn step_words(left: usize, step: Option<Step>) -> [u64; 5]
 }
 
 // A floor lookup: whether there is a record, its index, how many there are from it on, where they start.
-#[tactic(auto, unfolding(crate::specs::Words::floor_words))]
+#[tactic(auto, unfolding(lookup::specs::Floor::floor_words))]
 pub fn floor_words(answer: Option<Answer>) -> [u64; 4]
     ensures { result ≡ floor_words answer }
 {
@@ -102,7 +108,7 @@ pub fn label_bytes(label: Option<Label>) -> [u8; 255]
 }
 
 // A root's answer as numbers, in the order in which the root holds them.
-#[tactic(auto, unfolding(crate::specs::Words::root_words))]
+#[tactic(auto, unfolding(root::specs::Words::root_words))]
 pub fn root_words(decoded: Result<Root, Error>) -> [u64; 18]
     ensures { result ≡ root_words decoded }
 {
@@ -142,7 +148,7 @@ fn joined(uuid: &[u8; 16], label: &[u8; 255]) -> [u8; 271]
 }
 
 // A root's UUID, then its label's bytes; beside a refusal zeros.
-#[tactic(auto, unfolding(crate::specs::Words::root_text))]
+#[tactic(auto, unfolding(root::specs::Words::root_text))]
 pub fn root_text(decoded: Result<Root, Error>) -> [u8; 271]
     ensures { result ≡ root_text decoded }
 {
@@ -154,13 +160,14 @@ pub fn root_text(decoded: Result<Root, Error>) -> [u8; 271]
 
 // The root in a slot's block, as the choice between two takes it.
 pub fn slot_root(bytes: &[u8], slot: u64, blocks: u64) -> Result<Option<Root>, Error>
-    ensures { result ≡ slot_root bytes.now slot blocks }
+    ensures answer { result ≡ slot_root bytes.now slot blocks }
+    ensures words { supported_words result ≡ supported_words (slot_root bytes.now slot blocks) }
 {
     root::supported_root(Root::decode(bytes, slot, blocks))
 }
 
 // The choice between two roots: class, reason, 1 or 2, the chosen one's generation.
-#[tactic(auto, unfolding(crate::specs::Words::choice_words))]
+#[tactic(auto, unfolding(root::specs::Words::choice_words))]
 pub fn choice_words(chosen: Result<Selected, Error>) -> [u64; 4]
     ensures { result ≡ choice_words chosen }
 {
@@ -171,7 +178,7 @@ pub fn choice_words(chosen: Result<Selected, Error>) -> [u64; 4]
 }
 
 // A page: class, reason, level, total, count, where its payload starts, its length.
-#[tactic(auto, unfolding(crate::specs::Words::page_words))]
+#[tactic(auto, unfolding(page::specs::Page::page_words))]
 pub fn page_words(page: Result<Page, Error>) -> [u64; 7]
     ensures { result ≡ page_words page }
 {

@@ -6,11 +6,14 @@
 ghost use Rattle.std.specs.Prelude.{◌≡◌, ◌&&◌, cond, ◌≤◌, ◌++◌, length, drop};
 ghost use Rattle.crc.specs.Crc.{extend, crc32c};
 ghost use Rattle.crc.specs.DataUnit.{data_unit_crc};
+ghost use Rattle.error.specs.Answer.{number_words};
 ghost use Rattle.group.specs.Group.{checksum_slot};
-ghost use Rattle.lookup.specs.Floor.{floor_answer, scratch_of, next_record};
+ghost use Rattle.group.specs.Slots.{slot_words};
+ghost use Rattle.lookup.specs.Floor.{floor_answer, floor_words, scratch_of, next_record, step_words};
 ghost use Rattle.root.specs.Root.{root_decode};
 ghost use Rattle.root.specs.Select.{choose_root};
-ghost use Rattle.carryfs.specs.Words.{room, status_of, asked_status, placed, slot_words, group_words, is_uuid, number_words, floor_words, step_words, root_words, root_text, slot_root, choice_words, can_ask, asked_page};
+ghost use Rattle.root.specs.Words.{root_words, root_text, choice_words};
+ghost use Rattle.carryfs.specs.Words.{room, status_of, asked_status, placed, group_words, is_uuid, slot_root, can_ask, asked_page};
 
 use error::Validation;
 use root::Root;

@@ -3,5 +3,4 @@ pub mod Times
 pub mod Inode
 pub mod Entry
 pub mod Extent
-pub mod Accept
 pub mod Inside

@@ -2,6 +2,7 @@
 #![tactic(auto)]
 
 ghost use Rattle.std.specs.Prelude.{◌≡◌, ◌≤◌, length};
+ghost use Rattle.error.specs.Answer.{check_words, number_words};
 ghost use Rattle.catalog.specs.Keys.{validate_owner_id, is_catalog_key, validate_catalog_key};
 ghost use Rattle.catalog.specs.Times.{validate_timestamp_range, signed_number, validate_timestamp};
 ghost use Rattle.catalog.specs.Inode.{too_long_of, validate_symlink_target, flags_allowed, fields_in_range, fields_of_type, flags_and_reserved, target_check, validate_inode};
@@ -22,7 +23,8 @@ pub const MAX_SYMLINK_TARGET: usize = 1023;
 // Check an object or job ID.
 #[tactic(auto, unfolding(crate::specs::Keys::validate_owner_id, error::specs::Demand::outcome))]
 pub fn validate_owner_id(owner: u64, mode: Validation) -> Result<(), Error>
-    ensures { result ≡ validate_owner_id owner mode }
+    ensures answer { result ≡ validate_owner_id owner mode }
+    ensures words { check_words result ≡ check_words (validate_owner_id owner mode) }
 {
     if !(1..volume::MAX_ID).contains(&owner) {
         return Err(error::violation(mode, reason::INVALID_OBJECT_ID));
@@ -47,7 +49,8 @@ fn is_catalog_key(key: &[u8]) -> bool
 // Kept: the kind is the byte that is stored, since this promise gives it: an enum in its place would be another answer (docs/DECISIONS.md, 49), and the theorem on accepted keys speaks of that byte.
 #[tactic(auto, unfolding(crate::specs::Keys::validate_catalog_key, error::specs::Demand::outcome))]
 pub fn validate_catalog_key(key: &[u8], mode: Validation) -> Result<u8, Error>
-    ensures { result ≡ validate_catalog_key key.now mode }
+    ensures answer { result ≡ validate_catalog_key key.now mode }
+    ensures words { number_words result ≡ number_words (validate_catalog_key key.now mode) }
 {
     if key.len() < 9 {
         return Err(error::violation(mode, reason::CATALOG_KEY_IS_TOO_SHORT));
@@ -62,7 +65,8 @@ pub fn validate_catalog_key(key: &[u8], mode: Validation) -> Result<u8, Error>
 // Check a timestamp: seconds in the years 1601 through 9999, at most 999,999,999 nanoseconds.
 #[tactic(auto, unfolding(crate::specs::Times::validate_timestamp_range, crate::specs::Times::seconds_in_range, error::specs::Demand::outcome))]
 pub fn validate_timestamp_range(seconds: i64, nanos: u32, mode: Validation) -> Result<(), Error>
-    ensures { result ≡ validate_timestamp_range seconds nanos mode }
+    ensures answer { result ≡ validate_timestamp_range seconds nanos mode }
+    ensures words { check_words result ≡ check_words (validate_timestamp_range seconds nanos mode) }
 {
     if !(-11_644_473_600..=253_402_300_799).contains(&seconds) {
         return Err(error::violation(mode, reason::TIMESTAMP_SECONDS_OUT_OF_RANGE));
@@ -109,7 +113,8 @@ fn too_long(mode: Validation, reason: u16) -> Error
 // A symlink target is 1 to 1,023 bytes of UTF-8 without NUL.
 #[tactic(auto, unfolding(crate::specs::Inode::validate_symlink_target, crate::specs::Inode::is_target, error::specs::Demand::outcome))]
 pub fn validate_symlink_target(target: &[u8], mode: Validation) -> Result<(), Error>
-    ensures { result ≡ validate_symlink_target target.now mode }
+    ensures answer { result ≡ validate_symlink_target target.now mode }
+    ensures words { check_words result ≡ check_words (validate_symlink_target target.now mode) }
 {
     if MAX_SYMLINK_TARGET < target.len() {
         return Err(too_long(mode, reason::SYMLINK_TARGET_IS_TOO_LONG));
@@ -235,7 +240,8 @@ impl Inode<'_> {
 // Check an inode record value.
 #[tactic(auto, using(crate::proofs::Inodes::shape_long, crate::proofs::Inodes::inode_flat), unfolding(error::specs::Demand::outcome))]
 pub fn validate_inode(value: &[u8], blocks: u64, mode: Validation) -> Result<(), Error>
-    ensures { result ≡ validate_inode value.now blocks mode }
+    ensures answer { result ≡ validate_inode value.now blocks mode }
+    ensures words { check_words result ≡ check_words (validate_inode value.now blocks mode) }
 {
     inode_shape(value, mode)?;
     let inode = Inode { value };
@@ -262,7 +268,8 @@ fn is_entry_name(value: &[u8]) -> bool
 // Check a directory-entry record value.
 #[tactic(auto, unfolding(crate::specs::Entry::validate_directory_entry, error::specs::Demand::outcome))]
 pub fn validate_directory_entry(value: &[u8], mode: Validation) -> Result<(), Error>
-    ensures { result ≡ validate_directory_entry value.now mode }
+    ensures answer { result ≡ validate_directory_entry value.now mode }
+    ensures words { check_words result ≡ check_words (validate_directory_entry value.now mode) }
 {
     if value.len() < 12 {
         return Err(error::violation(mode, reason::DIRECTORY_ENTRY_IS_TOO_SHORT));
@@ -288,7 +295,8 @@ pub fn validate_extent(
     blocks: u64,
     mode: Validation,
 ) -> Result<u64, Error>
-    ensures { result ≡ validate_extent key.now value.now blocks mode }
+    ensures answer { result ≡ validate_extent key.now value.now blocks mode }
+    ensures words { number_words result ≡ number_words (validate_extent key.now value.now blocks mode) }
 {
     if key.len() < 17 {
         return Err(error::violation(mode, reason::INVALID_CATALOG_KEY));

@@ -47,7 +47,8 @@ use Rattle.root.specs.Select.{pair_demands, select_pair, select_root, supported_
 use Rattle.octets.specs.Number.{within, field}
 use Rattle.octets.specs.Reads.{read_of}
 use Rattle.crc.specs.Crc.{crc32c}
-use Rattle.crc.specs.DataUnit.{data_unit, data_unit_demands, data_unit_crc}
+use Rattle.crc.specs.declared.DataUnitCrc.{DataUnitCrc}
+use Rattle.crc.specs.DataUnit.{data_unit, data_unit_demands, data_unit_crc, length_demands, unit_new, seen_demands, unit_finish}
 use Rattle.claims.specs.Answers.{is_reason, is_answer, every_class, AnswersIn, by_mode, RefusesAlone, Demand1}
 use Rattle.claims.specs.Classes.{root_classes, page_classes, group_classes}
 
@@ -576,10 +577,22 @@ unfolding data_unit_crc
 unit_alone uuid object unit valid =
     ends (λ (d : Demand). RefusesAlone {A = ℕ} 2 0 (Err d.refusal)) (RefusesAlone 2 0) (Ok (crc32c (data_unit uuid object unit valid))) (λ d g p. g) (record { told = inl (refl, refl) }) (data_unit_demands valid) (record { told = inr (refl, refl) }, tt)
 
+begun_alone : (uuid : List ℕ) (object unit valid : ℕ) → RefusesAlone 2 0 (unit_new uuid object unit valid)
+unfolding unit_new
+begun_alone uuid object unit valid =
+    ends (λ (d : Demand). RefusesAlone {A = DataUnitCrc} 2 0 (Err d.refusal)) (RefusesAlone 2 0) _ (λ d g p. g) (record { told = inl (refl, refl) }) (length_demands valid) (record { told = inr (refl, refl) }, tt)
+
+finished_alone : (sum : DataUnitCrc) → RefusesAlone 2 0 (unit_finish sum)
+unfolding unit_finish
+finished_alone sum =
+    ends (λ (d : Demand). RefusesAlone {A = ℕ} 2 0 (Err d.refusal)) (RefusesAlone 2 0) _ (λ d g p. g) (record { told = inl (refl, refl) }) (seen_demands sum) (record { told = inr (refl, refl) }, tt)
+
 pub demand_1 : Demand1
 demand_1 = record {
   read = read_alone;
   unit = unit_alone;
+  begun = begun_alone;
+  finished = finished_alone;
   blocks = λ b m. to (blocks_answers b m);
   tree_ref = λ r b m. to (tree_answers r b m);
   page_ref = λ r k b m. to (page_ref_answers r k b m);

@@ -3,3 +3,4 @@ pub mod Classes
 pub mod Exactly
 pub mod Agreement
 pub mod Cases
+pub mod Words

@@ -1,7 +1,7 @@
 -- Demand 3, whole: two accepted pages, roots or checksum groups agree in all their bytes exactly when what the calls return agrees.
 use Rattle.pages.specs.Agree.{PagesAgree, LookupIsHandedOut}
 use Rattle.roots.specs.Agree.{RootsAgree}
-use Rattle.group.specs.Agree.{GroupsAgree, ExpandedSlots, ExpandedGroupsAgree}
+use Rattle.group.specs.Agree.{GroupsAgree, ExpandedSlots, ExpandedGroupsAgree, SlotsAreTold, SomeGroupAccepted}
 
 -- demand 3, with 01's "What demand 3 compares"
 pub record Demand3 : Type 0 where
@@ -17,3 +17,7 @@ pub record Demand3 : Type 0 where
   pub slots : ExpandedSlots
   -- and lent in expanded form
   pub expanded : ExpandedGroupsAgree
+  -- what they answer, lent as stored or expanded: of an accepted group no slot below 256 is refused, presence is the slot's bit, and the word the u32 at 32 + 4 s, or 0
+  pub told : SlotsAreTold
+  -- and there is an accepted group
+  pub shown : SomeGroupAccepted

@@ -8,7 +8,8 @@ use Rattle.error.specs.declared.Validation.TheVariants.{Input, Disk}
 use Rattle.error.specs.Answer.{check_class, check_reason}
 use Rattle.error.specs.Reason.{symlink_target_is_too_long}
 use Rattle.octets.specs.Reads.{read_of}
-use Rattle.crc.specs.DataUnit.{data_unit_crc}
+use Rattle.crc.specs.declared.DataUnitCrc.{DataUnitCrc}
+use Rattle.crc.specs.DataUnit.{data_unit_crc, unit_new, unit_finish}
 use Rattle.volume.specs.declared.TreeRef.{TreeRef}
 use Rattle.volume.specs.declared.TreeKind.{TreeKind}
 use Rattle.volume.specs.References.{validate_blocks, validate_tree_ref, validate_page_ref, validate_root_slot, validate_uuid}
@@ -81,6 +82,9 @@ pub record Demand1 : Type 0 where
   pub read : (s : List ℕ) (offset width reason : ℕ) → RefusesAlone 3 reason (read_of s offset width reason)
   -- crc.rs, `DataUnitCrc::new`: the length of a data unit is refused with class 2 and reason 0, the one string that isn't in the list (DECISIONS 17)
   pub unit : (uuid : List ℕ) (object unit : ℕ) (valid : List ℕ) → RefusesAlone 2 0 (data_unit_crc uuid object unit valid)
+  -- the same in pieces: the length that is announced, and crc.rs, `DataUnitCrc::finish`, another number of bytes than announced
+  pub begun : (uuid : List ℕ) (object unit valid : ℕ) → RefusesAlone 2 0 (unit_new uuid object unit valid)
+  pub finished : (sum : DataUnitCrc) → RefusesAlone 2 0 (unit_finish sum)
   -- section 2: blocks, references and slots; and what stands beside them, UUIDs and the count of groups
   pub blocks : (blocks : ℕ) (mode : Validation) → AnswersBy mode (validate_blocks blocks mode)
   pub tree_ref : (reference : TreeRef) (blocks : ℕ) (mode : Validation) → AnswersBy mode (validate_tree_ref reference blocks mode)

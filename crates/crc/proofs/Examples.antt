@@ -1,17 +1,11 @@
 -- A few cases of the definitions. (RFC 3720's vectors are run by the program crc_vectors.)
-use Prim.Native.Nat.{ℕ, zero, suc, ◌+◌, ◌*◌, ◌/◌, ◌%◌, ◌^◌}
 use mathlib.Core.Path.{◌≡◌, refl}
 use mathlib.Core.List.{[], ◌∷◌}
-use Rattle.crc.specs.Crc.{polynomial, step_bit, step_bits, step_byte, extend, crc32c, zeroed}
+use Rattle.crc.specs.Crc.{IsReflected, step_bit, step_bits, step_byte, extend, crc32c, zeroed}
 use Rattle.octets.specs.Number.{little_bytes}
 
--- the lowest bits of a number, in reverse
-abbrev reverse : ℕ → ℕ → ℕ
-reverse zero n = 0
-reverse (suc bits) n = n % 2 * 2 ^ bits + reverse bits (n / 2)
-
--- RFC 3720, section 12.1 prints 0x11EDC6F41
-reflected : reverse 32 0x11EDC6F41 ≡ polynomial
+-- the polynomial is RFC 3720's, reflected
+pub reflected : IsReflected
 reflected = refl
 
 -- "123456789"

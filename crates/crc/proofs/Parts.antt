@@ -10,7 +10,7 @@ use Rattle.std.specs.Int.{w32, w64, to_le_bytes, bytes_low_first, byte_at}
 use Rattle.std.specs.List.{fold}
 use Rattle.std.specs.Simd.{first_chunks}
 use Rattle.crc.specs.Crc.{ones, step_byte, extend, crc32c, zeroed, crc32c_with_zero}
-use Rattle.crc.specs.DataUnit.{unit_bytes, tag, data_unit}
+use Rattle.crc.specs.DataUnit.{tag, unit_front}
 use Rattle.crc.proofs.Xor.{◌⊕◌}
 use Rattle.octets.specs.Number.{little_bytes}
 use Rattle.crc.proofs.Linear.{extend_append}
@@ -168,15 +168,12 @@ from_byte i (suc k) n = ap₂ (λ (x : ℕ) (xs : List ℕ). x ∷ xs) (low i) (
 bytes_same : (k n : ℕ) → bytes_low_first 0 k n ≡ little_bytes k n
 bytes_same k n = from_byte 0 k n ∙ ap (little_bytes k) (div-one n)
 
--- the parts that are summed, one after the other
-pub data_unit_lem : {a b c d e f g : ℕ} {os us ls : List ℕ} (uuid : List ℕ) (object unit : ℕ) (valid : List ℕ)
+-- what stands before a unit's bytes, part by part
+pub front_lem : {a b c d e : ℕ} {os us ls : List ℕ} (uuid : List ℕ) (object unit valid : ℕ)
     → a ≡ extend ones tag → b ≡ extend a uuid → os ≡ to_le_bytes w64 object → c ≡ extend b os → us ≡ to_le_bytes w64 unit → d ≡ extend c us
-    → ls ≡ to_le_bytes w32 (length valid) → e ≡ extend d ls → f ≡ extend e valid → g ≡ extend f (replicate (unit_bytes - length valid) 0)
-    → g ⊕ ones ≡ crc32c (data_unit uuid object unit valid)
-unfolding crc32c data_unit
-data_unit_lem {a} {b} {c} {d} {e} {f} {g} {os} {us} {ls} uuid object unit valid pa pb po pc pu pd pl pe pf pg =
+    → ls ≡ to_le_bytes w32 valid → e ≡ extend d ls → e ≡ extend ones (unit_front uuid object unit valid)
+front_lem {a} {b} {c} {d} {e} {os} {us} {ls} uuid object unit valid pa pb po pc pu pd pl pe =
     let o = po ∙ bytes_same 8 object in
     let u = pu ∙ bytes_same 8 unit in
-    let l = pl ∙ bytes_same 4 (length valid) in
-    let same : g ≡ extend ones (data_unit uuid object unit valid) = simp extend_append (cc) in
-    ap (λ (x : ℕ). x ⊕ ones) same
+    let l = pl ∙ bytes_same 4 valid in
+    simp extend_append (cc)

@@ -1,12 +1,25 @@
 -- CRC-32C (01, section 1), one bit at a time, in a register.
 -- RFC 3720, section 12.1, says it as a division: the message, each byte's lowest bit first and the first 32 bits complemented, times x^32, by the
 -- polynomial 0x11EDC6F41; the remainder is complemented. The register, which is 01's form, holds the remainder in reverse, the highest power lowest.
-use Rattle.std.specs.Prelude.{ℕ, zero, suc, ◌*◌, ◌/◌, ◌%◌, List, [], ◌∷◌}
+use Rattle.std.specs.Prelude.{ℕ, zero, suc, ◌≡◌, ◌+◌, ◌*◌, ◌/◌, ◌%◌, ◌^◌, List, [], ◌∷◌}
 use Rattle.std.specs.Int.Bits.{bit_xor}
 
 -- 01, section 1: the reflected polynomial, RFC 3720's (section 12.1) without its highest power, in reverse
 abbrev pub polynomial : ℕ
 polynomial = 0x82F63B78
+
+-- RFC 3720, section 12.1: the polynomial as it is printed there, with its highest power, x^32
+abbrev pub printed_polynomial : ℕ
+printed_polynomial = 0x11EDC6F41
+
+-- so many of a number's lowest bits, in reverse order
+abbrev pub reversed : ℕ → ℕ → ℕ
+reversed zero n = 0
+reversed (suc bits) n = n % 2 * 2 ^ bits + reversed bits (n / 2)
+
+-- 01, section 1: "reflected": the 32 lower bits of RFC 3720's polynomial in reverse order
+abbrev pub IsReflected : Type 0
+IsReflected = polynomial ≡ reversed 32 printed_polynomial
 
 -- 01, section 1: start and final xor, RFC 3720's two complements (section 12.1)
 abbrev pub ones : ℕ

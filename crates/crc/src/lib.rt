@@ -3,10 +3,11 @@
 
 mod words;
 
-ghost use Rattle.std.specs.Prelude.{◌≡◌, ◌+◌, ◌*◌, ◌/◌, ◌%◌, ◌^◌, ◌<◌, ◌≤◌, length, replicate};
+ghost use Rattle.std.specs.Prelude.{◌≡◌, ◌+◌, ◌*◌, ◌/◌, ◌%◌, ◌^◌, ◌<◌, replicate};
 ghost use Rattle.std.specs.Int.Bits.{bit_xor};
 ghost use Rattle.crc.specs.Crc.{step_bits, step_byte, extend, crc32c as crc32cOf, crc32c_with_zero};
-ghost use Rattle.crc.specs.DataUnit.{unit_bytes, data_unit, data_unit_crc};
+ghost use Rattle.error.specs.Answer.{number_words};
+ghost use Rattle.crc.specs.DataUnit.{unit_front, unit_words, unit_new, unit_update, unit_finish, data_unit_crc};
 ghost use Rattle.crc.specs.Inside.{past_lane, IsLaneWords};
 ghost use Rattle.crc.specs.Tables.{IsTables};
 
@@ -171,27 +172,72 @@ pub fn crc32c_with_zero(bytes: &[u8], zero_start: usize, zero_end: usize) -> u32
     software_extend(gap, &bytes[end..]) ^ 0xFFFF_FFFF
 }
 
-// The checksum of the bytes that a data unit stands for.
-fn unit_sum(uuid: &[u8; 16], object: u64, unit: u64, valid: &[u8]) -> u32
-    requires { length valid.now ≤ unit_bytes }
-    ensures { result ≡ crc32cOf (data_unit uuid.now object unit valid.now) }
+// The checksum of one unit of a file's data whose valid bytes come in pieces, such as pages that lie apart.
+#[derive(Clone, Copy)]
+pub struct DataUnitCrc {
+    register: u32,
+    valid: usize,
+    seen: usize,
+}
+
+// The register after what stands before a unit's bytes.
+fn front_register(uuid: &[u8; 16], object: u64, unit: u64, valid: u32) -> u32
+    ensures { result ≡ extend 0xFFFFFFFF (unit_front uuid.now object unit valid) }
 {
     let a = software_extend(0xFFFF_FFFF, b"CFSXDATA");
     let b = software_extend(a, uuid);
     let c = software_extend(b, &object.to_le_bytes());
     let d = software_extend(c, &unit.to_le_bytes());
-    let e = software_extend(d, &(valid.len() as u32).to_le_bytes());
-    let f = software_extend(e, valid);
-    extend_zeros(f, UNIT_BYTES - valid.len()) ^ 0xFFFF_FFFF
+    software_extend(d, &valid.to_le_bytes())
+}
+
+impl DataUnitCrc {
+    // No byte of the unit is seen yet, and so many are to come.
+    #[tactic(auto, unfolding(crate::specs::DataUnit::unit_new, crate::specs::DataUnit::unit_words, error::specs::Demand::outcome))]
+    pub fn new(uuid: &[u8; 16], object: u64, unit: u64, valid: usize) -> Result<Self, Error>
+        ensures answer { result ≡ unit_new uuid.now object unit valid }
+        ensures words { unit_words result ≡ unit_words (unit_new uuid.now object unit valid) }
+    {
+        if !(1..=UNIT_BYTES).contains(&valid) {
+            return Err(Error::InvalidInput(UNLISTED));
+        }
+        Ok(DataUnitCrc {
+            register: front_register(uuid, object, unit, valid as u32),
+            valid,
+            seen: 0,
+        })
+    }
+
+    // The next valid bytes.
+    #[tactic(auto, unfolding(crate::specs::DataUnit::unit_update))]
+    pub fn update(&mut self, bytes: &[u8])
+        ensures { self.new ≡ unit_update self.old bytes.now }
+    {
+        self.register = software_extend(self.register, bytes);
+        self.seen = self.seen.saturating_add(bytes.len());
+    }
+
+    // The checksum, once exactly the valid bytes were seen; zeros fill up the unit.
+    #[tactic(auto, unfolding(crate::specs::DataUnit::unit_finish, error::specs::Demand::outcome))]
+    pub fn finish(self) -> Result<u64, Error>
+        ensures answer { result ≡ unit_finish self }
+        ensures words { number_words result ≡ number_words (unit_finish self) }
+    {
+        if self.seen != self.valid {
+            return Err(Error::InvalidInput(UNLISTED));
+        }
+        let padded = extend_zeros(self.register, UNIT_BYTES.saturating_sub(self.valid));
+        Ok(u64::from(padded ^ 0xFFFF_FFFF))
+    }
 }
 
 // The checksum of one unit of a file's data. `valid` holds its valid bytes, 1 to 65,536; zeros fill it up.
-#[tactic(auto, unfolding(crate::specs::DataUnit::data_unit_crc, error::specs::Demand::outcome))]
+#[tactic(auto, using(crate::proofs::Pieces::at_once, crate::proofs::Pieces::at_once_refused))]
 pub fn data_unit_crc(uuid: &[u8; 16], object: u64, unit: u64, valid: &[u8]) -> Result<u64, Error>
-    ensures { result ≡ data_unit_crc uuid.now object unit valid.now }
+    ensures answer { result ≡ data_unit_crc uuid.now object unit valid.now }
+    ensures words { number_words result ≡ number_words (data_unit_crc uuid.now object unit valid.now) }
 {
-    if !(1..=UNIT_BYTES).contains(&valid.len()) {
-        return Err(Error::InvalidInput(UNLISTED));
-    }
-    Ok(u64::from(unit_sum(uuid, object, unit, valid)))
+    let mut sum = DataUnitCrc::new(uuid, object, unit, valid.len())?;
+    sum.update(valid);
+    sum.finish()
 }

@@ -1,3 +1,4 @@
 pub mod Tests
 pub mod Exactly
 pub mod Chain
+pub mod Words

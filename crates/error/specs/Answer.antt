@@ -1,5 +1,5 @@
 -- Answers and their numbers (01, "Return classes").
-use Rattle.std.specs.Prelude.{ℕ, Result, Ok, Err}
+use Rattle.std.specs.Prelude.{ℕ, Bool, cond, List, [], ◌∷◌, Result, Ok, Err}
 use Rattle.error.specs.declared.Error.{Error}
 use Rattle.error.specs.declared.Error.TheVariants.{InvalidGeometry, InvalidInput, Corrupt, UnsupportedFormat, InvalidName, TooLong}
 use Rattle.error.specs.declared.Validation.{Validation}
@@ -50,6 +50,20 @@ number_check (Err e) = Err e
 abbrev pub number_of : Number → ℕ
 number_of (Ok n) = n
 number_of (Err e) = 0
+
+-- a number for a test: 1 where it holds
+abbrev pub flag : Bool → ℕ
+flag b = cond b 1 0
+
+-- 01, "Return classes": class, reason
+unfoldable pub check_words : Check → List ℕ
+check_words (Ok passed) = 0 ∷ 0 ∷ []
+check_words (Err e) = class_of e ∷ reason_of e ∷ []
+
+-- 01, "Return classes": class, reason, the number of a check that gives one
+unfoldable pub number_words : Number → List ℕ
+number_words (Ok n) = 0 ∷ 0 ∷ n ∷ []
+number_words (Err e) = class_of e ∷ reason_of e ∷ 0 ∷ []
 
 -- `violation`: what breaks a rule is class 2 in mode Input, class 3 in mode Disk (01, "Return classes"); but for a symlink target that is too long, catalog `too_long_of`
 abbrev pub violation_of : Validation → ℕ → Error

@@ -1,8 +1,8 @@
 -- A chain of checks as a list of demands (01, "Return classes": the first failing check in the Rust's order answers).
-use Rattle.std.specs.Prelude.{◌≡◌, Bool, true, false, ◌&&◌, cond, List, [], ◌∷◌, Result, Ok, Err}
+use Rattle.std.specs.Prelude.{ℕ, ◌≡◌, Bool, true, false, ◌&&◌, cond, List, [], ◌∷◌, length, replicate, Result, Ok, Err}
 use Rattle.error.specs.declared.Error.{Error}
 use Rattle.error.specs.declared.Error.TheVariants.{UnsupportedFormat}
-use Rattle.error.specs.Answer.{Check}
+use Rattle.error.specs.Answer.{Check, class_of, reason_of}
 
 -- a demand: a test, and the refusal where the test doesn't hold
 pub record Demand : Type 0 where
@@ -36,6 +36,11 @@ outcome (d ∷ ds) accepted = cond d.test (outcome ds accepted) (Err d.refusal)
 -- the same where the result is only that all hold
 abbrev pub demands : List Demand → Check
 demands ds = outcome ds (Ok tt)
+
+-- 01, "Return classes": in numbers: class and reason of the first demand that fails, with zeros in the place of the values; where all hold, 0, 0 and the values
+unfoldable pub first_failing : List Demand → List ℕ → List ℕ
+first_failing [] values = 0 ∷ 0 ∷ values
+first_failing (d ∷ ds) values = cond d.test (first_failing ds values) (class_of d.refusal ∷ reason_of d.refusal ∷ replicate (length values) 0)
 
 -- every test of the list holds; no order is in it
 abbrev pub AllHold : List Demand → Type 0

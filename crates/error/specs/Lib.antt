@@ -1,3 +1,4 @@
 pub mod Answer
 pub mod Demand
+pub mod Cases
 pub mod Reason

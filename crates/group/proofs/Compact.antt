@@ -16,8 +16,8 @@ use Rattle.octets.specs.Below.{every}
 use Rattle.octets.proofs.Below.{through_last, through_true, through_above}
 use Rattle.octets.proofs.Bit.{bit_lt, bits_same, top_is_one, one_is_top, one_has_none}
 use Rattle.octets.proofs.Zero.{zero_at, zero_all}
+use Rattle.group.specs.Inside.{Sized}
 use Rattle.group.specs.Group.{present, stored_slots, right_size, is_compact, stored_bytes, hole_zero, holes_zero}
-use Rattle.group.specs.Accept.{Sized}
 
 -- ---- the size
 

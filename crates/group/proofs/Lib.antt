@@ -6,3 +6,4 @@ pub mod Slots
 pub mod Expanded
 pub mod Agree
 pub mod Cases
+pub mod Told

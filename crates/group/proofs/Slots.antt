@@ -21,7 +21,7 @@ use Rattle.group.specs.Group.{present, word, stored_slots, stored_bytes, checksu
 use Rattle.group.specs.Slots.{Slot, presence, word_in}
 use Rattle.group.specs.Agree.{Accepted}
 use Rattle.group.proofs.Bitmap.{stored_le}
-use Rattle.group.proofs.Accept.{group_exactly}
+use Rattle.group.proofs.Accept.{holds}
 
 -- ---- an accepted group
 
@@ -34,7 +34,7 @@ pub record Good (g : List ℕ) : Type 0 where
 
 pub good : (key g : List ℕ) (mode : Validation) → Accepted key g mode → Good g
 good key g mode a =
-    let h = (group_exactly key g mode).0 a.passed in
+    let h = holds key g mode a.passed in
     record { bytes = a.bytes; long = h.size.long; short = h.size.short; ends = h.ends; holes = h.holes }
 
 -- ---- a slot

@@ -2,11 +2,12 @@
 #![tactic(auto)]
 
 ghost use Rattle.std.specs.Prelude.{◌≡◌, true, ◌+◌, ◌*◌, ◌≤◌, ◌<◌, length};
+ghost use Rattle.error.specs.Answer.{check_words};
 ghost use Rattle.octets.specs.Below.{every};
 ghost use Rattle.octets.specs.Bytes.{IsPart};
 ghost use Rattle.group.specs.Group.{checksum_slot, compact_bytes, expand_group, validate_checksum_group, stored_slots, right_size, is_compact, hole_zero, holes_zero};
-ghost use Rattle.group.specs.Accept.{Sized};
-ghost use Rattle.group.specs.Inside.{IsLastNonzero, slot_zero, slots_zero};
+ghost use Rattle.group.specs.Slots.{slot_words};
+ghost use Rattle.group.specs.Inside.{Sized, IsLastNonzero, slot_zero, slots_zero};
 
 use error::{Error, Validation, reason};
 
@@ -18,7 +19,8 @@ const MAX_CHECKSUM_GROUP: u64 = 9223372036854775807 / (256 * 65536);
 // The word in a slot, nothing of a hole.
 #[tactic(auto, unfolding(crate::specs::Group::checksum_slot, error::specs::Demand::outcome))]
 pub fn checksum_slot(group: &[u8], slot: usize) -> Result<Option<u32>, Error>
-    ensures { result ≡ checksum_slot group.now slot }
+    ensures answer { result ≡ checksum_slot group.now slot }
+    ensures words { slot_words result ≡ slot_words (checksum_slot group.now slot) }
 {
     if slot >= 256 || group.len() < 32 {
         return Err(Error::Corrupt(reason::CHECKSUM_GROUP_SLOT));
@@ -142,7 +144,8 @@ fn holes_zero(value: &[u8]) -> bool
 // Check a packed checksum group; a key under 17 bytes is refused first.
 #[tactic(auto, unfolding(crate::specs::Group::validate_checksum_group, error::specs::Demand::outcome))]
 pub fn validate_checksum_group(key: &[u8], value: &[u8], mode: Validation) -> Result<(), Error>
-    ensures { result ≡ validate_checksum_group key.now value.now mode }
+    ensures answer { result ≡ validate_checksum_group key.now value.now mode }
+    ensures words { check_words result ≡ check_words (validate_checksum_group key.now value.now mode) }
 {
     if key.len() < 17 {
         return Err(error::violation(mode, reason::INVALID_CATALOG_KEY));

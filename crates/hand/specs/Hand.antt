@@ -1,6 +1,7 @@
 -- What a caller of the views sees, in numbers (01, sections 4, 5 and 7): the page's answer, the lookup's on its payload, and the first of the records that it answers.
-use Rattle.std.specs.Prelude.{ℕ, ◌-◌, List, length, Option, Some, None, Result, Ok, Err}
+use Rattle.std.specs.Prelude.{ℕ, ◌-◌, List, [], ◌∷◌, length, replicate, Option, Some, None, Result, Ok, Err}
 use Rattle.error.specs.declared.Error.{Error}
+use Rattle.error.specs.Answer.{class_of, reason_of}
 use Rattle.crc.specs.Crc.{crc32c}
 use Rattle.octets.specs.Bytes.{part}
 use Rattle.lookup.specs.Floor.{floor_answer, scratch_of, next_record}
@@ -76,3 +77,18 @@ handed_of (Err e) page key entries = Err e
 -- the page that is asked for, and the key looked up in it
 abbrev pub hand_out : TreeRef → List ℕ → TreeKind → ℕ → Option ℕ → ℕ → List ℕ → List ℕ → ℕ → Result Handed Error
 hand_out reference uuid kind parent_generation expected_level blocks page key entries = handed_of (decode_page reference uuid kind parent_generation expected_level blocks page) page key entries
+
+-- `next` of `Records`, of so many records from the found one on: whether one is given, its key's length and checksum, its value's, how many are left after it; without one as many as before
+abbrev pub given_words : ℕ → Option Given → List ℕ
+given_words left (Some g) = 1 ∷ g.key_len ∷ g.key_sum ∷ g.value_len ∷ g.value_sum ∷ g.left ∷ []
+given_words left None = 0 ∷ 0 ∷ 0 ∷ 0 ∷ 0 ∷ left ∷ []
+
+-- 01, section 7: whether a record is found, its index, how many there are from it on, and of the first of them as above
+unfoldable pub first_words : Option First → List ℕ
+first_words (Some f) = 1 ∷ f.index ∷ f.remaining ∷ given_words f.remaining f.given
+first_words None = replicate 9 0
+
+-- 01, "Return classes" and section 4: class, reason, level, total and count of the view, and what the lookup finds
+unfoldable pub handed_words : Result Handed Error → List ℕ
+handed_words (Ok h) = 0 ∷ 0 ∷ h.level ∷ h.data_blocks ∷ h.count ∷ first_words h.first
+handed_words (Err e) = class_of e ∷ reason_of e ∷ replicate 12 0

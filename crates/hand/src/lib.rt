@@ -4,7 +4,7 @@
 ghost use Rattle.std.specs.Prelude.{◌≡◌, length};
 ghost use Rattle.lookup.specs.Floor.{scratch_of, next_record};
 ghost use Rattle.page.specs.Page.{decode_page};
-ghost use Rattle.hand.specs.Hand.{step_numbers, lookup_first, scratch_in, hand_out};
+ghost use Rattle.hand.specs.Hand.{step_numbers, lookup_first, first_words, scratch_in, hand_out, handed_words};
 
 use error::Error;
 use page::view::{PageView, Records};
@@ -46,6 +46,7 @@ fn first_given(mut records: Records<'_>) -> Option<Given>
 #[tactic(auto, unfolding(crate::specs::Hand::lookup_first))]
 pub fn lookup_first(view: PageView<'_>, key: &[u8], offsets: &mut [u16]) -> Option<First>
     ensures first { result ≡ lookup_first view.entry.payload.now view.entry.count key.now (length offsets.old) }
+    ensures words { first_words result ≡ first_words (lookup_first view.entry.payload.now view.entry.count key.now (length offsets.old)) }
     ensures scratch { offsets.new ≡ scratch_of view.entry.payload.now view.entry.count offsets.old }
 {
     let (index, records) = view.floor_record(key, offsets)?;
@@ -80,6 +81,7 @@ pub fn hand_out(
     offsets: &mut [u16],
 ) -> Result<Handed, Error>
     ensures handed { result ≡ hand_out reference uuid.now kind parent_generation expected_level blocks page.now key.now (length offsets.old) }
+    ensures words { handed_words result ≡ handed_words (hand_out reference uuid.now kind parent_generation expected_level blocks page.now key.now (length offsets.old)) }
     ensures scratch { offsets.new ≡ scratch_in (decode_page reference uuid.now kind parent_generation expected_level blocks page.now) page.now offsets.old }
 {
     let view = page::decode_page(

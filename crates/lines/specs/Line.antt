@@ -5,18 +5,18 @@ use Rattle.error.specs.Answer.{class_of, reason_of}
 use Rattle.octets.specs.Bytes.{byte_at, part}
 use Rattle.octets.specs.Number.{u32_at}
 use Rattle.group.specs.Group.{expand_group}
-use Rattle.lookup.specs.Floor.{floor_answer, scratch_of}
-use Rattle.hand.specs.Hand.{scratch_in}
+use Rattle.lookup.specs.Floor.{floor_answer, floor_words, scratch_of}
+use Rattle.hand.specs.Hand.{scratch_in, handed_words}
 use Rattle.root.specs.declared.Label.{Label}
 use Rattle.root.specs.declared.Root.{Root}
 use Rattle.root.specs.Label.{label_new}
 use Rattle.root.specs.Root.{root_decode}
 use Rattle.report.specs.Text.{decimal, number_fields, hex_field, entries_field}
-use Rattle.carryfs.specs.Words.{floor_words, label_bytes, root_words}
+use Rattle.root.specs.Words.{label_bytes, root_words}
 use Rattle.calls.specs.declared.Numbers.{Numbers}
 use Rattle.calls.specs.Told.{at_most}
 use Rattle.calls.specs.Table.{page_asked, fields_of}
-use Rattle.calls.specs.Given.{numbers_in, selected_fields, hand_asked, handed_fields}
+use Rattle.calls.specs.Given.{numbers_in, selected_fields, hand_asked}
 use Rattle.shape.specs.Calls.{strings_at}
 
 -- ---- strings
@@ -61,7 +61,7 @@ floor_told n payload key scratch =
 -- call 43: the view's and the lookup's numbers, and the scratch as it is left
 unfoldable pub handed_told : Numbers → List ℕ → List ℕ → List ℕ → List ℕ → List ℕ
 handed_told n uuid page key scratch =
-    number_fields (handed_fields (hand_asked n uuid page key (length scratch))) ++ entries_field (scratch_in (page_asked n uuid page) page scratch)
+    number_fields (handed_words (hand_asked n uuid page key (length scratch))) ++ entries_field (scratch_in (page_asked n uuid page) page scratch)
 
 -- ---- the line
 

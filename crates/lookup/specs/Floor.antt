@@ -52,6 +52,11 @@ floor_at part count key entries =
     (cond (ltb entries count) (walk_floor part key count 0 0 None)
     (cond (unbroken part count 0) (before (written part count 0) (bisect part key (written part count 0) count 0 count)) None))
 
+-- 01, section 7: whether there is a record, its index, where it starts
+unfoldable pub place_words : Option Floor → List ℕ
+place_words (Some f) = 1 ∷ f.index ∷ f.offset ∷ []
+place_words None = 0 ∷ 0 ∷ 0 ∷ []
+
 -- 01, section 7: the scratch at the end: untouched in the first two cases, otherwise its first count entries become the records' offsets, or, where a record is broken, only those up to it
 unfoldable pub scratch_of : List ℕ → ℕ → List ℕ → List ℕ
 scratch_of part count scratch = cond (ltb 65535 (length part)) scratch (cond (ltb (length scratch) count) scratch (over (written part count 0) scratch))
@@ -65,6 +70,11 @@ answer_of len count None = None
 abbrev pub floor_answer : List ℕ → ℕ → List ℕ → ℕ → Option Answer
 floor_answer part count key entries = answer_of (length part) count (floor_at part count key entries)
 
+-- 01, section 7: whether there is a record, its index, how many records there are from it on, where they start in the part
+unfoldable pub floor_words : Option Answer → List ℕ
+floor_words (Some a) = 1 ∷ a.index ∷ a.remaining ∷ a.from ∷ []
+floor_words None = 0 ∷ 0 ∷ 0 ∷ 0 ∷ []
+
 -- the step over a record; there is none over a broken one
 abbrev pub step_split : ℕ → Option Lengths → Option Step
 step_split n (Some l) = Some (record { key_start = 4; key_end = 4 + l.key_len; value_end = 4 + l.key_len + l.value_len; remaining = n - 1 })
@@ -73,3 +83,8 @@ step_split n None = None
 -- `next` of `Records`: the first of n records that are left: where its key starts and ends, where its value ends, and how many are left after it; there is none where n is 0 or it is broken, and then nothing is passed
 unfoldable pub next_record : List ℕ → ℕ → Option Step
 next_record part n = cond (ltb 0 n) (step_split n (split_record part)) None
+
+-- `next` of `Records`, of so many that are left: whether there is one, where its key starts and ends, where its value ends, how many are left after it; without one as many as before
+unfoldable pub step_words : ℕ → Option Step → List ℕ
+step_words left (Some s) = 1 ∷ s.key_start ∷ s.key_end ∷ s.value_end ∷ s.remaining ∷ []
+step_words left None = 0 ∷ 0 ∷ 0 ∷ 0 ∷ left ∷ []

@@ -1,5 +1,5 @@
 -- A record (01, section 5): u16 key length, u16 value length, key, value.
-use Rattle.std.specs.Prelude.{ℕ, ◌+◌, List, Bool, true, false, cond, leb, length, Option, Some, None}
+use Rattle.std.specs.Prelude.{ℕ, ◌+◌, List, [], ◌∷◌, Bool, true, false, cond, leb, length, Option, Some, None}
 use Rattle.octets.specs.Bytes.{part}
 use Rattle.octets.specs.Number.{u16_at}
 use Rattle.octets.specs.Order.{order, is_greater}
@@ -28,6 +28,11 @@ value_of s = part s (4 + key_len s) (value_len s)
 -- the two lengths of the record at the start of s; none where it is broken: s doesn't hold all of it
 unfoldable pub split_record : List ℕ → Option Lengths
 split_record s = cond (leb (record_len s) (length s)) (Some (record { key_len = key_len s; value_len = value_len s })) None
+
+-- 01, section 5: whether there is a record, the lengths of its key and value
+unfoldable pub lengths_words : Option Lengths → List ℕ
+lengths_words (Some l) = 1 ∷ l.key_len ∷ l.value_len ∷ []
+lengths_words None = 0 ∷ 0 ∷ 0 ∷ []
 
 -- a whole record, not a broken one
 abbrev pub is_record : Option Lengths → Bool

@@ -3,9 +3,9 @@
 
 ghost use Rattle.std.specs.Prelude.{◌≡◌, true, ℕ, ◌+◌, ◌-◌, ◌<◌, ◌≤◌, length, get_or, drop, None, is_some};
 ghost use Rattle.octets.specs.Number.{u16_at};
-ghost use Rattle.lookup.specs.Record.{split_record, is_record, look_at};
+ghost use Rattle.lookup.specs.Record.{split_record, is_record, look_at, lengths_words};
 ghost use Rattle.lookup.specs.Inside.{record_end};
-ghost use Rattle.lookup.specs.Floor.{written, unbroken, over, above_at, bisect, before, walk_floor, floor_at, scratch_of, floor_answer, next_record};
+ghost use Rattle.lookup.specs.Floor.{written, unbroken, over, above_at, bisect, before, walk_floor, floor_at, scratch_of, floor_answer, next_record, place_words, floor_words, step_words};
 
 // The lengths of a record's key and value.
 #[derive(Clone, Copy)]
@@ -24,7 +24,8 @@ pub struct Floor {
 // The record at the start of a part; none where it is broken.
 #[tactic(auto, unfolding(crate::specs::Record::split_record))]
 pub fn split_record(part: &[u8]) -> Option<Lengths>
-    ensures { result ≡ split_record part.now }
+    ensures answer { result ≡ split_record part.now }
+    ensures words { lengths_words result ≡ lengths_words (split_record part.now) }
 {
     if part.len() < 4 {
         return None;
@@ -39,7 +40,7 @@ pub fn split_record(part: &[u8]) -> Option<Lengths>
 
 // How many bytes the record at the start of a part takes, where its key is not above a sought one; a broken one counts as above it.
 #[tactic(auto, using(crate::proofs::RecordLaws::split_fits), unfolding(crate::specs::Record::look_at))]
-pub fn look_at(part: &[u8], key: &[u8]) -> Option<usize>
+fn look_at(part: &[u8], key: &[u8]) -> Option<usize>
     ensures { result ≡ look_at part.now key.now }
 {
     let Lengths { key_len, value_len } = split_record(part)?;
@@ -139,7 +140,8 @@ fn bisect_records(part: &[u8], key: &[u8], offsets: &[u16]) -> Option<Floor>
 // The floor lookup. The scratch is written where it has an entry for each record and the part has at most 65,535 bytes.
 // Kept, here and in `floor_answer`: part and count, as callers give them today: a struct would ask another thing of them. Page's view has them in one.
 pub fn floor_at(part: &[u8], count: usize, key: &[u8], scratch: &mut [u16]) -> Option<Floor>
-    ensures { (result ≡ floor_at part.now count key.now (length scratch.old)) × (scratch.new ≡ scratch_of part.now count scratch.old) }
+    ensures answer { (result ≡ floor_at part.now count key.now (length scratch.old)) × (scratch.new ≡ scratch_of part.now count scratch.old) }
+    ensures words { place_words result ≡ place_words (floor_at part.now count key.now (length scratch.old)) }
 {
     if 65535 < part.len() {
         return None;
@@ -164,7 +166,8 @@ pub struct Answer {
 
 #[tactic(auto, using(crate::proofs::FloorLaws::floor_index))]
 pub fn floor_answer(part: &[u8], count: usize, key: &[u8], scratch: &mut [u16]) -> Option<Answer>
-    ensures { (result ≡ floor_answer part.now count key.now (length scratch.old)) × (scratch.new ≡ scratch_of part.now count scratch.old) }
+    ensures answer { (result ≡ floor_answer part.now count key.now (length scratch.old)) × (scratch.new ≡ scratch_of part.now count scratch.old) }
+    ensures words { floor_words result ≡ floor_words (floor_answer part.now count key.now (length scratch.old)) }
 {
     let Floor { index, offset } = floor_at(part, count, key, scratch)?;
     Some(Answer {
@@ -187,7 +190,8 @@ pub struct Step {
 // The first of so many records that are left.
 #[tactic(auto, using(crate::proofs::RecordLaws::split_fits), unfolding(crate::specs::Floor::next_record))]
 pub fn next_record(part: &[u8], remaining: usize) -> Option<Step>
-    ensures { result ≡ next_record part.now remaining }
+    ensures answer { result ≡ next_record part.now remaining }
+    ensures words { step_words remaining result ≡ step_words remaining (next_record part.now remaining) }
 {
     if remaining == 0 {
         return None;

@@ -1,9 +1,10 @@
 -- Bytes are the digits of their number: two parts of one length with one number are the same bytes.
-use mathlib.Core.Path.{◌≡◌, refl, sym, ap₂, ◌∙◌}
+use mathlib.Core.Path.{◌≡◌, refl, sym, ap₂, subst, ◌∙◌}
 use mathlib.Core.List.{List, [], ◌∷◌}
-use Prim.Native.Nat.{ℕ, zero, suc, ◌+◌, ◌≤◌, zero-le}
-use native.Mathlib.Nat.{suc_inj, le_refl}
+use Prim.Native.Nat.{ℕ, zero, suc, ◌+◌, ◌*◌, ◌^◌, ◌≤◌, ◌<◌, zero-le}
+use native.Mathlib.Nat.{suc_inj, le_refl, pow-succ'}
 use native.Mathlib.Omega.{arith}
+use lib.Dec.{lit<}
 use lib.ListN.{length, get_or, take, drop}
 use lib.Seq.{get_or-drop}
 use Rattle.octets.specs.Bytes.{part, Bytes}
@@ -35,3 +36,15 @@ little_same (x ∷ a) (y ∷ b) n p q e =
 pub field_same : (s t : List ℕ) (o w : ℕ) → Bytes s → Bytes t → o + w ≤ length s → o + w ≤ length t → field s o w ≡ field t o w → part s o w ≡ part t o w
 unfolding field
 field_same s t o w p q m n e = little_same (part s o w) (part t o w) (part_length s o w m ∙ sym (part_length t o w n)) (bytes_part s o w p) (bytes_part t o w q) e
+
+-- a number of so many bytes lies below the power of 256
+little_below : (l : List ℕ) → Bytes l → little l < 256 ^ length l
+little_below [] h = lit< tt
+little_below (x ∷ l) h =
+    let low : x < 256 = h.below 0 in
+    let rest : little l < 256 ^ length l = little_below l (record { below = λ i. h.below (suc i) }) in
+    rw pow-succ' (omega arith)
+
+pub field_below : (s : List ℕ) (o w : ℕ) → Bytes s → o + w ≤ length s → field s o w < 256 ^ w
+unfolding field
+field_below s o w b l = subst (λ (n : ℕ). little (part s o w) < 256 ^ n) (part_length s o w l) (little_below (part s o w) (bytes_part s o w b))

@@ -1,5 +1,5 @@
 -- Bytes joined by `|` are 0 where each is.
-use mathlib.Core.Path.{◌≡◌, refl, sym, ◌∙◌}
+use mathlib.Core.Path.{◌≡◌, refl, sym, ap, ◌∙◌}
 use mathlib.Core.Bool.{Bool, true, false, ◌&&◌, and-true}
 use mathlib.Core.Logic.{◌⊎◌, inl, inr}
 use mathlib.Core.List.{List, [], ◌∷◌}
@@ -9,7 +9,7 @@ use native.Mathlib.Omega.{arith}
 use lib.Bits.{bit_or, or_zero_l, or_add_and, and_le_r}
 use lib.Dec.{eqb}
 use borrow.Author.Tests.{ne_eqb, eqb-true}
-use lib.ListN.{length, get_or}
+use lib.ListN.{length, get_or, replicate}
 use Rattle.error.proofs.Tests.{and_left, and_right}
 use Rattle.std.specs.List.{fold}
 use Rattle.octets.specs.Bytes.{all_zero}
@@ -39,3 +39,17 @@ zero_at (x ∷ s) e (suc i) = zero_at s (and_right (eqb x 0) (all_zero s) e) i
 pub zero_all : (s : List ℕ) → ((i : ℕ) → i < length s → get_or s i 0 ≡ 0) → all_zero s ≡ true
 zero_all [] h = refl
 zero_all (x ∷ s) h = rw (h 0 (omega arith), zero_all s (λ i l. h (suc i) (omega arith)))
+
+-- so it is so many zeros, and so many zeros are all zero
+pub zeros_are : (s : List ℕ) (n : ℕ) → length s ≡ n → all_zero s ≡ true → s ≡ replicate n 0
+zeros_are s n l e = go s e ∙ ap (λ (m : ℕ). replicate m 0) l
+  where
+    go : (s : List ℕ) → all_zero s ≡ true → s ≡ replicate (length s) 0
+    go [] e = refl
+    go (x ∷ s) e =
+        let h : x ≡ 0 = eqb-true x 0 (and_left (eqb x 0) (all_zero s) e) in
+        rw h (ap (λ (l : List ℕ). 0 ∷ l) (go s (and_right (eqb x 0) (all_zero s) e)))
+
+pub zeros_zero : (n : ℕ) → all_zero (replicate n 0) ≡ true
+zeros_zero zero = refl
+zeros_zero (suc n) = zeros_zero n

@@ -10,6 +10,12 @@ order [] (y ∷ ys) = Less
 order (x ∷ xs) [] = Greater
 order (x ∷ xs) (y ∷ ys) = cond (ltb x y) Less (cond (ltb y x) Greater (order xs ys))
 
+-- 01, section 5, as docs/PROBE.md numbers it: 0 the first before the second, 1 equal, 2 behind it
+unfoldable pub order_words : Ordering → List ℕ
+order_words Less = 0 ∷ []
+order_words Equal = 1 ∷ []
+order_words Greater = 2 ∷ []
+
 -- the first is above the second
 abbrev pub is_greater : Ordering → Bool
 is_greater Less = false

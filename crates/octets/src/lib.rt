@@ -3,9 +3,10 @@
 
 ghost use Rattle.std.specs.Prelude.{◌≡◌, ◌+◌, ◌-◌, ◌≤◌, min, length, drop, ok_or};
 ghost use Rattle.octets.specs.Bytes.{byte_at, part, IsPart, IsRest, padded_to, Laid, all_zero, same_bytes, starts_with};
+ghost use Rattle.error.specs.Answer.{number_words};
 ghost use Rattle.error.specs.declared.Error.TheVariants.{Corrupt};
 ghost use Rattle.octets.specs.Number.{u16_at, u32_at, u64_at, big_at};
-ghost use Rattle.octets.specs.Order.{order, is_greater};
+ghost use Rattle.octets.specs.Order.{order, is_greater, order_words};
 ghost use Rattle.octets.specs.Inside.{array_at, Decides};
 ghost use Rattle.octets.specs.Reads.{read_of};
 
@@ -40,21 +41,24 @@ fn filled_at<const N: usize>(bytes: &[u8], at: usize) -> [u8; N]
 // The u16 at an offset, or corruption with the caller's reason.
 // Kept: a name for each width, here and at `u16_at`, each a line over one reader: `read::<u16>(..)` would need a trait with an impl of that line for each of the three.
 pub fn read_u16_le(bytes: &[u8], offset: usize, reason: u16) -> Result<u16, Error>
-    ensures { result ≡ read_of bytes.now offset 2 reason }
+    ensures answer { result ≡ read_of bytes.now offset 2 reason }
+    ensures words { number_words result ≡ number_words (read_of bytes.now offset 2 reason) }
 {
     Ok(u16::from_le_bytes(read_array(bytes, offset, reason)?))
 }
 
 // The same of the u32.
 pub fn read_u32_le(bytes: &[u8], offset: usize, reason: u16) -> Result<u32, Error>
-    ensures { result ≡ read_of bytes.now offset 4 reason }
+    ensures answer { result ≡ read_of bytes.now offset 4 reason }
+    ensures words { number_words result ≡ number_words (read_of bytes.now offset 4 reason) }
 {
     Ok(u32::from_le_bytes(read_array(bytes, offset, reason)?))
 }
 
 // The same of the u64.
 pub fn read_u64_le(bytes: &[u8], offset: usize, reason: u16) -> Result<u64, Error>
-    ensures { result ≡ read_of bytes.now offset 8 reason }
+    ensures answer { result ≡ read_of bytes.now offset 8 reason }
+    ensures words { number_words result ≡ number_words (read_of bytes.now offset 8 reason) }
 {
     Ok(u64::from_le_bytes(read_array(bytes, offset, reason)?))
 }
@@ -133,7 +137,8 @@ pub fn starts_with(bytes: &[u8], text: &[u8]) -> bool
 
 // Bytewise order; a proper prefix is smaller.
 pub fn compare(a: &[u8], b: &[u8]) -> Ordering
-    ensures { result ≡ order a.now b.now }
+    ensures answer { result ≡ order a.now b.now }
+    ensures words { order_words result ≡ order_words (order a.now b.now) }
 {
     a.cmp(b)
 }

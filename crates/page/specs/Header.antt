@@ -56,6 +56,11 @@ total page = u64_at page 56
 unfoldable pub expected_of : ℕ → Option ℕ
 expected_of n = cond (eqb n 255) None (Some n)
 
+-- 01, "The program readback": whether a level is given, the level
+unfoldable pub expected_words : Option ℕ → List ℕ
+expected_words (Some level) = 1 ∷ level ∷ []
+expected_words None = 0 ∷ 0 ∷ []
+
 -- `validate_page_header`, READING-RULES 7.2: a level that is expected, if any, is at most 7
 unfoldable pub is_level : Option ℕ → Bool
 is_level None = true

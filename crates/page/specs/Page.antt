@@ -1,9 +1,9 @@
 -- A page (01, section 4): the header, then the records, the leaf's total, the padding, and two children in an internal page.
-use Rattle.std.specs.Prelude.{ℕ, ◌+◌, Bool, not, ◌||◌, List, [], ◌∷◌, leb, eqb, drop, Option, Result, Ok}
+use Rattle.std.specs.Prelude.{ℕ, ◌+◌, ◌-◌, Bool, not, ◌||◌, List, [], ◌∷◌, leb, eqb, drop, replicate, Option, Result, Ok, Err}
 use Rattle.error.specs.declared.Error.{Error}
 use Rattle.error.specs.declared.Error.TheVariants.{Corrupt}
 use Rattle.error.specs.declared.Validation.TheVariants.{Disk}
-use Rattle.error.specs.Answer.{Check, Number, number_of}
+use Rattle.error.specs.Answer.{Check, Number, number_of, class_of, reason_of}
 use Rattle.error.specs.Demand.{Demand, ◌otherwise◌, passing, outcome, demands}
 use Rattle.error.specs.Reason as reason
 use Rattle.octets.specs.Bytes.{all_zero}
@@ -84,3 +84,8 @@ accepted_page page = stated_page page (total page)
 unfoldable pub decode_page : TreeRef → List ℕ → TreeKind → ℕ → Option ℕ → ℕ → List ℕ → Result Page Error
 decode_page reference uuid kind parent_generation expected_level blocks page =
     outcome (page_demands reference uuid kind parent_generation expected_level blocks page) (Ok (accepted_page page))
+
+-- 01, "Return classes" and section 4: class, reason, level, total, count, where the payload starts, its length
+unfoldable pub page_words : Result Page Error → List ℕ
+page_words (Ok p) = 0 ∷ 0 ∷ p.level ∷ p.data_blocks ∷ p.count ∷ p.start ∷ (p.end - p.start) ∷ []
+page_words (Err e) = class_of e ∷ reason_of e ∷ replicate 5 0

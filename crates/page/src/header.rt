@@ -1,5 +1,6 @@
 // The checks of a page's header, in the order of the Rust's `validate_page_header`.
 ghost use Rattle.std.specs.Prelude.{◌≡◌};
+ghost use Rattle.error.specs.Answer.{check_words};
 ghost use Rattle.page.specs.Header.{is_level, check_caller, checksum_fits, check_format, is_page_kind, is_tree_kind, level_fits, is_expected, reserved_zero, is_of_tree, check_kind, is_referred, has_uuid, total_allowed, check_identity, validate_page_header};
 ghost use Rattle.page.specs.Unchecked.{is_asked_for};
 
@@ -220,7 +221,8 @@ impl Asked<'_> {
     // Every check of the header.
     #[tactic(auto, unfolding(crate::specs::Header::validate_page_header, error::specs::Demand::outcome))]
     pub fn validate_page_header(self, blocks: u64, page: &[u8]) -> Result<(), Error>
-        ensures { result ≡ validate_page_header self.entry.reference self.entry.uuid.now self.entry.kind self.entry.parent_generation self.entry.expected_level blocks page.now }
+        ensures answer { result ≡ validate_page_header self.entry.reference self.entry.uuid.now self.entry.kind self.entry.parent_generation self.entry.expected_level blocks page.now }
+        ensures words { check_words result ≡ check_words (validate_page_header self.entry.reference self.entry.uuid.now self.entry.kind self.entry.parent_generation self.entry.expected_level blocks page.now) }
     {
         self.check_caller(blocks, page)?;
         check_format(page)?;
@@ -250,7 +252,8 @@ pub fn validate_page_header(
     blocks: u64,
     page: &[u8],
 ) -> Result<(), Error>
-    ensures { result ≡ validate_page_header reference uuid.now kind parent_generation expected_level blocks page.now }
+    ensures answer { result ≡ validate_page_header reference uuid.now kind parent_generation expected_level blocks page.now }
+    ensures words { check_words result ≡ check_words (validate_page_header reference uuid.now kind parent_generation expected_level blocks page.now) }
 {
     let asked = Asked {
         reference,

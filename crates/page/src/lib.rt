@@ -4,12 +4,12 @@
 pub mod header;
 pub mod view;
 
-ghost use Rattle.std.specs.Prelude.{◌≡◌, ◌+◌};
+ghost use Rattle.std.specs.Prelude.{◌≡◌, ◌+◌, take};
 ghost use Rattle.octets.specs.Number.{within};
-ghost use Rattle.page.specs.Header.{expected_of, payload_length};
-ghost use Rattle.page.specs.Page.{validate_page_records, total_fits, padding_zero, enough_children, check_content, stated_page, accepted_page, decode_page};
+ghost use Rattle.page.specs.Header.{expected_of, payload_length, expected_words};
+ghost use Rattle.page.specs.Page.{validate_page_records, total_fits, padding_zero, enough_children, check_content, stated_page, accepted_page, decode_page, page_words};
 ghost use Rattle.page.specs.Unchecked.{verified_page_view, draft_page_view};
-ghost use Rattle.page.specs.View.{Views};
+ghost use Rattle.page.specs.View.{Views, view_words};
 
 use error::{Error, Validation, reason};
 use header::Asked;
@@ -20,7 +20,8 @@ use walk::RecordValidation;
 // The level that a number from a program or a C caller stands for: 255 is a level that isn't given.
 #[tactic(auto, unfolding(crate::specs::Header::expected_of))]
 pub fn expected_of(level: u8) -> Option<u8>
-    ensures { result ≡ expected_of level }
+    ensures answer { result ≡ expected_of level }
+    ensures words { expected_words result ≡ expected_words (expected_of level) }
 {
     (level != 255).then_some(level)
 }
@@ -141,7 +142,8 @@ pub fn page_answer(
     expected_level: Option<u8>,
     blocks: u64,
 ) -> Result<Page, Error>
-    ensures { result ≡ decode_page reference uuid.now kind parent_generation expected_level blocks page.now }
+    ensures answer { result ≡ decode_page reference uuid.now kind parent_generation expected_level blocks page.now }
+    ensures words { page_words result ≡ page_words (decode_page reference uuid.now kind parent_generation expected_level blocks page.now) }
 {
     header::validate_page_header(
         reference,
@@ -173,7 +175,8 @@ pub fn verified_answer(
     parent_generation: u64,
     expected_level: Option<u8>,
 ) -> Result<Page, Error>
-    ensures { result ≡ verified_page_view reference uuid.now kind parent_generation expected_level page.now }
+    ensures answer { result ≡ verified_page_view reference uuid.now kind parent_generation expected_level page.now }
+    ensures words { page_words result ≡ page_words (verified_page_view reference uuid.now kind parent_generation expected_level page.now) }
 {
     if page.len() < PageView::LEVEL_OFFSET + 1 {
         return Err(Error::Corrupt(reason::PAGE_LENGTH));
@@ -200,7 +203,8 @@ pub fn verified_answer(
 // A page that is still being built: nothing is checked but that its bytes are there, and its total is not read.
 #[tactic(auto, unfolding(crate::specs::Unchecked::draft_page_view, error::specs::Demand::outcome))]
 pub fn draft_answer(page: &[u8]) -> Result<Page, Error>
-    ensures { result ≡ draft_page_view page.now }
+    ensures answer { result ≡ draft_page_view page.now }
+    ensures words { page_words result ≡ page_words (draft_page_view page.now) }
 {
     if page.len() < PageView::COUNT_OFFSET + 2 {
         return Err(Error::Corrupt(reason::DRAFT_ENTRY_COUNT));
@@ -215,6 +219,7 @@ pub fn draft_answer(page: &[u8]) -> Result<Page, Error>
 }
 
 // Validate the page that the reference names, and view its payload in place.
+#[tactic(auto, unfolding(crate::specs::View::view_words, crate::specs::Page::page_words))]
 pub fn decode_page<'a>(
     page: &'a [u8],
     reference: TreeRef,
@@ -224,7 +229,8 @@ pub fn decode_page<'a>(
     expected_level: Option<u8>,
     blocks: u64,
 ) -> Result<PageView<'a>, Error>
-    ensures { Views page.entry (decode_page reference uuid.now kind parent_generation expected_level blocks page.now) result }
+    ensures answer { Views page.entry (decode_page reference uuid.now kind parent_generation expected_level blocks page.now) result }
+    ensures words { view_words result ≡ take 5 (page_words (decode_page reference uuid.now kind parent_generation expected_level blocks page.now)) }
 {
     let answer = page_answer(
         page,
@@ -239,6 +245,7 @@ pub fn decode_page<'a>(
 }
 
 // The view of a page that `decode_page` accepted earlier, rechecking only its identity.
+#[tactic(auto, unfolding(crate::specs::View::view_words, crate::specs::Page::page_words))]
 pub fn verified_page_view<'a>(
     page: &'a [u8],
     reference: TreeRef,
@@ -247,7 +254,8 @@ pub fn verified_page_view<'a>(
     parent_generation: u64,
     expected_level: Option<u8>,
 ) -> Result<PageView<'a>, Error>
-    ensures { Views page.entry (verified_page_view reference uuid.now kind parent_generation expected_level page.now) result }
+    ensures answer { Views page.entry (verified_page_view reference uuid.now kind parent_generation expected_level page.now) result }
+    ensures words { view_words result ≡ take 5 (page_words (verified_page_view reference uuid.now kind parent_generation expected_level page.now)) }
 {
     let answer = verified_answer(
         page,
@@ -261,8 +269,10 @@ pub fn verified_page_view<'a>(
 }
 
 // The view of a page that is still being built.
+#[tactic(auto, unfolding(crate::specs::View::view_words, crate::specs::Page::page_words))]
 pub fn draft_page_view(page: &[u8]) -> Result<PageView<'_>, Error>
-    ensures { Views page.entry (draft_page_view page.now) result }
+    ensures answer { Views page.entry (draft_page_view page.now) result }
+    ensures words { view_words result ≡ take 5 (page_words (draft_page_view page.now)) }
 {
     let answer = draft_answer(page)?;
     Ok(view::view_of(page, answer))

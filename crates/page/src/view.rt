@@ -1,8 +1,9 @@
 // A view of a page: what was read of its header, and the part of the caller's bytes that holds its records.
-ghost use Rattle.std.specs.Prelude.{◌≡◌, ◌*◌, ◌<◌, eqb, length};
+ghost use Rattle.std.specs.Prelude.{◌≡◌, ◌*◌, ◌<◌, eqb, length, take};
 ghost use Rattle.std.specs.Iterator.{at_most};
-ghost use Rattle.lookup.specs.Floor.{floor_answer, scratch_of, next_record};
-ghost use Rattle.page.specs.View.{IsView, Found, Stepped};
+ghost use Rattle.lookup.specs.Floor.{floor_answer, floor_words, scratch_of, next_record};
+ghost use Rattle.lookup.specs.Record.{lengths_words};
+ghost use Rattle.page.specs.View.{IsView, Found, found_words, Stepped, first_lengths, next_words};
 
 use crate::Page;
 
@@ -91,8 +92,10 @@ impl<'a> PageView<'a> {
     }
 
     // The last record whose key is not above the sought one: its index, and the records from it on.
+    #[tactic(auto, unfolding(crate::specs::View::found_words, lookup::specs::Floor::floor_words))]
     pub fn floor_record(self, key: &[u8], offsets: &mut [u16]) -> Option<(usize, Records<'a>)>
         ensures found { Found self.entry.payload (floor_answer self.entry.payload.now self.entry.count key.now (length offsets.old)) result }
+        ensures words { found_words result ≡ take 3 (floor_words (floor_answer self.entry.payload.now self.entry.count key.now (length offsets.old))) }
         ensures scratch { offsets.new ≡ scratch_of self.entry.payload.now self.entry.count offsets.old }
     {
         let a = lookup::floor_answer(self.payload, self.count, key, offsets)?;
@@ -127,11 +130,11 @@ pub struct Records<'a> {
 impl<'a> Iterator for Records<'a> {
     type Item = (&'a [u8], &'a [u8]);
 
-    ghost next_gives = { λ s r t. Stepped s (next_record s.payload.now s.remaining) r t };
+    ghost next_gives = { λ s r t. Stepped s (next_record s.payload.now s.remaining) r t × (next_words r ≡ lengths_words (first_lengths s.payload.now s.remaining)) };
 
     ghost remaining = { λ s. at_most s.remaining };
 
-    #[tactic(auto, unfolding(lookup::specs::Floor::next_record))]
+    #[tactic(auto, using(crate::proofs::Words::next_some, crate::proofs::Words::next_none), unfolding(lookup::specs::Floor::next_record))]
     fn next(&mut self) -> Option<(&'a [u8], &'a [u8])> {
         let s = lookup::next_record(self.payload, self.remaining)?;
         let key = octets::span(self.payload, s.key_start, s.key_end);

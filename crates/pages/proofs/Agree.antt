@@ -1,83 +1,86 @@
 -- Demand 3 for pages.
 use mathlib.Core.Path.{◌≡◌, refl, sym, ap, ap₂, subst, ◌∙◌}
+use mathlib.Core.Logic.{◌⊎◌, inl, inr}
 use mathlib.Core.List.{List}
-use Prim.Native.Nat.{ℕ, ◌+◌, ◌-◌, ◌≤◌}
+use Prim.Native.Nat.{ℕ, ◌-◌, ◌≤◌}
 use native.Mathlib.Omega.{arith}
-use lib.ListN.{length, drop}
+use lib.ListN.{length}
 use denote.Ref.{Bor}
 use Rattle.std.specs.Prelude.{Option, Some, None, Result, Ok, Err}
 use Rattle.error.specs.declared.Error.{Error}
-use Rattle.error.specs.Answer.{Number, number_check, number_of}
-use Rattle.error.proofs.Exactly.{all_hold, outcome_holds}
-use Rattle.octets.specs.Bytes.{part, Bytes}
+use Rattle.error.specs.Answer.{check_class}
+use Rattle.error.proofs.Exactly.{class_some}
+use Rattle.octets.specs.Bytes.{byte_at, part}
 use Rattle.volume.specs.declared.TreeRef.{TreeRef}
 use Rattle.volume.specs.declared.TreeKind.{TreeKind}
 use Rattle.walk.specs.Entries.{Read}
-use Rattle.walk.specs.Records.{is_leaf, own_rules, validate_records}
 use Rattle.lookup.specs.Floor.{floor_at, answer_of, next_record}
 use Rattle.lookup.specs.declared.Floor.{Floor}
 use Rattle.lookup.specs.declared.Step.{Step}
 use Rattle.walk.specs.Found.{Finding, first_of, step_found, answer_found, lookup_in}
 use Rattle.octets.proofs.Join.{part_length}
-use Rattle.octets.proofs.Digits.{bytes_drop}
 use Rattle.octets.proofs.Parts.{part_from}
-use Rattle.walk.proofs.Walked.{walk_reads}
 use Rattle.walk.proofs.Found.{scratch_free, runs_agree}
 use Rattle.page.specs.declared.Page.{Page}
 use Rattle.page.specs.declared.view.PageView.{PageView}
 use Rattle.page.specs.declared.view.Records.{Records}
 use Rattle.page.specs.Header.{level, total, count, payload_length}
-use Rattle.page.specs.Page.{context, validate_page_records, page_demands, check_page, accepted_page, decode_page}
+use Rattle.page.specs.Page.{decode_page}
 use Rattle.page.specs.View.{IsView, Views, Found, Stepped}
 use Rattle.pages.specs.Agree.{lookup, Accepted, Same, PagesAgree, handed_out, GivenFirst, LookupIsHandedOut}
-use Rattle.pages.proofs.Accept.{page_holds}
+use Rattle.pages.specs.Accept.{ContentHolds, PageHolds, PageStates}
+use Rattle.pages.proofs.Accept.{page_exactly}
 use Rattle.pages.proofs.Fields.{Good, page_same}
 
-value_is : (r : Number) → number_check r ≡ Ok tt → r ≡ Ok (number_of r)
-value_is (Ok n) e = refl
-value_is (Err x) e = cc
+-- the records of an accepted page
+read_of : (kind : TreeKind) (blocks : ℕ) (page : List ℕ) → (byte_at page 12 ≡ 1) × (byte_at page 14 ≡ 0) ⊎ (byte_at page 12 ≡ 2) × (1 ≤ byte_at page 14) × (byte_at page 14 ≤ 7) → ContentHolds kind blocks page
+    → Read (part page 80 (payload_length page)) (count page)
+read_of kind blocks page (inl p) h = (h.leaf p.0).read
+read_of kind blocks page (inr p) h = (h.internal p.0).0.read
 
--- the records of a page whose walk passes
-read_of : (kind : TreeKind) (blocks : ℕ) (page : List ℕ) → Bytes page → number_check (validate_page_records kind blocks page) ≡ Ok tt → Read (part page 80 (payload_length page)) (count page)
-unfolding validate_page_records validate_records
-read_of kind blocks page bytes e =
-    let c = context kind blocks page in
-    (walk_reads (is_leaf c) c.mode (own_rules c) (drop 80 page) (payload_length page) (count page) (number_of (validate_page_records kind blocks page))
-    (bytes_drop page 80 bytes) (value_is (validate_page_records kind blocks page) e)).read
+-- class 0 is a result
+result_of : {A : Type 0} (r : Result A Error) → check_class r ≡ 0 → (a : A) × (r ≡ Ok a)
+result_of (Ok a) e = (a, refl)
+result_of (Err x) e = absurd (class_some x e)
 
-good : (reference : TreeRef) (uuid : List ℕ) (kind : TreeKind) (parent_generation : ℕ) (expected_level : Option ℕ) (blocks : ℕ) (page : List ℕ) → Accepted reference uuid kind parent_generation expected_level blocks page → Good reference uuid kind page
-good reference uuid kind parent_generation expected_level blocks page a =
-    let holds = page_holds reference uuid kind parent_generation expected_level blocks page a.passed in
-    record {
-      bytes = a.bytes;
-      parent_generation = parent_generation;
-      expected_level = expected_level;
-      blocks = blocks;
-      holds = holds;
-      reads = read_of kind blocks page a.bytes holds.content.records;
-    }
+-- what `decode_page` answers on an accepted page
+module _ (reference : TreeRef) (uuid : List ℕ) (kind : TreeKind) (parent_generation : ℕ) (expected_level : Option ℕ) (blocks : ℕ) (page : List ℕ) (a : Accepted reference uuid kind parent_generation expected_level blocks page) where
+  answered : (answer : Page) × (decode_page reference uuid kind parent_generation expected_level blocks page ≡ Ok answer)
+  answered = result_of (decode_page reference uuid kind parent_generation expected_level blocks page) a.passed
+
+  holding : PageHolds reference uuid kind parent_generation expected_level blocks page × PageStates page answered.0
+  holding = (page_exactly reference uuid kind parent_generation expected_level blocks page answered.0 a.bytes).0 answered.1
+
+  good : Good reference uuid kind page
+  good = record {
+    bytes = a.bytes;
+    parent_generation = parent_generation;
+    expected_level = expected_level;
+    blocks = blocks;
+    holds = holding.0;
+    reads = read_of kind blocks page holding.0.header.level.kind holding.0.content;
+  }
 
 -- a view of the page: what it states, and its payload
-record Seen (page : List ℕ) (v : PageView) : Type 0 where
-  level_is : v.level ≡ level page
-  total_is : v.data_blocks ≡ total page
-  count_is : v.count ≡ count page
-  payload_is : v.payload.now ≡ part page 80 (payload_length page)
+pub record Seen (page : List ℕ) (v : PageView) : Type 0 where
+  pub level_is : v.level ≡ level page
+  pub total_is : v.data_blocks ≡ total page
+  pub count_is : v.count ≡ count page
+  pub payload_is : v.payload.now ≡ part page 80 (payload_length page)
 
 -- the view that `decode_page` returns on an accepted page
-seen : (reference : TreeRef) (uuid : List ℕ) (kind : TreeKind) (parent_generation : ℕ) (expected_level : Option ℕ) (blocks : ℕ) (page : Bor (List ℕ)) (v : PageView)
+pub seen : (reference : TreeRef) (uuid : List ℕ) (kind : TreeKind) (parent_generation : ℕ) (expected_level : Option ℕ) (blocks : ℕ) (page : Bor (List ℕ)) (v : PageView)
     → Accepted reference uuid kind parent_generation expected_level blocks page.now → Views page (decode_page reference uuid kind parent_generation expected_level blocks page.now) (Ok v) → Seen page.now v
-unfolding decode_page check_page
 seen reference uuid kind parent_generation expected_level blocks page v a views =
-    let ds = page_demands reference uuid kind parent_generation expected_level blocks page.now in
-    let answered : decode_page reference uuid kind parent_generation expected_level blocks page.now ≡ Ok (accepted_page page.now) = outcome_holds ds (Ok (accepted_page page.now)) (all_hold ds a.passed) in
-    let w : IsView page (accepted_page page.now) v = subst (λ (x : Result Page Error). Views page x (Ok v)) answered views in
-    let width : 80 + payload_length page.now - 80 ≡ payload_length page.now = omega arith in
+    let x = answered reference uuid kind parent_generation expected_level blocks page.now a in
+    let s = (holding reference uuid kind parent_generation expected_level blocks page.now a).1 in
+    let w : IsView page x.0 v = subst (λ (r : Result Page Error). Views page r (Ok v)) x.1 views in
+    let width : x.0.end - x.0.start ≡ payload_length page.now = omega (arith, s.end, s.start) in
     record {
-      level_is = w.level;
-      total_is = w.total;
-      count_is = w.count;
-      payload_is = w.payload.bytes ∙ ap (λ (n : ℕ). part page.now 80 n) width;
+      level_is = w.level ∙ s.level;
+      total_is = w.total ∙ s.total;
+      count_is = w.count ∙ s.count;
+      payload_is = w.payload.bytes ∙ ap₂ (λ (m n : ℕ). part page.now m n) s.start width;
     }
 
 module _ (reference : TreeRef) (uuid : List ℕ) (kind : TreeKind) (p q : List ℕ) (v w : PageView) (g : Good reference uuid kind p) (h : Good reference uuid kind q) (a : Seen p v) (b : Seen q w) (s t : List ℕ → List ℕ) where

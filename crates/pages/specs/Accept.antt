@@ -1,64 +1,83 @@
--- A page (01, section 4) is accepted exactly when each of these holds; no order is in it.
-use Rattle.std.specs.Prelude.{ℕ, ◌+◌, ◌≤◌, ◌≡◌, ◌↔◌, ◌⊎◌, true, List, length, drop, Option, Ok}
-use Rattle.error.specs.declared.Validation.TheVariants.{Input}
-use Rattle.error.specs.Answer.{number_check, number_of}
-use Rattle.octets.specs.Bytes.{byte_at, part, all_zero}
-use Rattle.octets.specs.Number.{u16_at, u32_at}
+-- A page (01, section 4) is accepted exactly when each of these holds, down to its records' fields; no order of tests is in it.
+use Rattle.std.specs.Prelude.{ℕ, ◌+◌, ◌-◌, ◌≤◌, ◌≡◌, ◌↔◌, ◌⊎◌, List, [], ◌∷◌, length, drop, replicate, Option, Some, Ok}
+use Rattle.error.specs.Answer.{check_class}
+use Rattle.octets.specs.Bytes.{byte_at, part, Bytes}
+use Rattle.octets.specs.Number.{u16_at, u32_at, u64_at}
 use Rattle.crc.specs.Crc.{crc32c_with_zero}
 use Rattle.volume.specs.declared.TreeRef.{TreeRef}
 use Rattle.volume.specs.declared.TreeKind.{TreeKind}
-use Rattle.volume.specs.References.{tree_kind_value, validate_blocks, validate_page_ref, validate_uuid}
+use Rattle.volume.specs.Accept.{PageRefHolds}
 use Rattle.page.specs.declared.Page.{Page}
-use Rattle.page.specs.Header.{magic, page_kind, tree_kind, level, self_block, generation, count, payload_length, total, is_level, is_expected, total_allowed}
-use Rattle.page.specs.Page.{validate_page_records, accepted_page, decode_page}
+use Rattle.page.specs.Page.{decode_page}
+use Rattle.pages.specs.Records.{LeafRecords, InternalRecords}
 
--- 01, section 4, READING-RULES 7.2, tests 1 to 6: the caller's part
-pub record CallerHolds (reference : TreeRef) (uuid : List ℕ) (kind : TreeKind) (parent_generation : ℕ) (expected_level : Option ℕ) (blocks : ℕ) (page : List ℕ) : Type 0 where
+-- READING-RULES 7.2, tests 1 to 5: the caller's part; the place asks for B of 1,024 too, and `LevelHolds` makes test 6: no page has a level above 7
+pub record CallerHolds (reference : TreeRef) (uuid : List ℕ) (kind : TreeKind) (parent_generation blocks : ℕ) (page : List ℕ) : Type 0 where
   pub size : length page ≡ 4096
-  pub range : validate_blocks blocks Input ≡ Ok tt
-  pub place : validate_page_ref reference kind blocks Input ≡ Ok tt
-  pub volume : validate_uuid uuid Input ≡ Ok tt
-  pub parent_given : parent_generation ≡ 0 → ⊥
+  pub geometry : 1024 ≤ blocks
+  pub place : PageRefHolds reference kind blocks
+  pub volume : uuid ≡ replicate (length uuid) 0 → ⊥
   pub not_newer : reference.generation ≤ parent_generation
-  pub level_known : is_level expected_level ≡ true
 
--- READING-RULES 7.2, tests 7 to 21: the header's fields
-pub record HeaderHolds (reference : TreeRef) (uuid : List ℕ) (kind : TreeKind) (parent_generation : ℕ) (expected_level : Option ℕ) (blocks : ℕ) (page : List ℕ) : Type 0 where
-  pub checksum : crc32c_with_zero page 64 68 ≡ u32_at page 64
-  pub magic_is : part page 0 8 ≡ magic
+-- section 4: a leaf is of kind 1 and level 0, an internal page of kind 2 and a level from 1 to 7; the level is the expected one, if one is given
+pub record LevelHolds (expected_level : Option ℕ) (page : List ℕ) : Type 0 where
+  pub kind : (byte_at page 12 ≡ 1) × (byte_at page 14 ≡ 0) ⊎ (byte_at page 12 ≡ 2) × (1 ≤ byte_at page 14) × (byte_at page 14 ≤ 7)
+  pub expected : (n : ℕ) → expected_level ≡ Some n → byte_at page 14 ≡ n
+
+-- section 4: tree kind 1 catalog, 2 allocation, 3 cleanup, 4 workspace
+abbrev pub KindByte : TreeKind → ℕ → Type 0
+KindByte TreeKind.Catalog byte = byte ≡ 1
+KindByte TreeKind.Allocation byte = byte ≡ 2
+KindByte TreeKind.Cleanup byte = byte ≡ 3
+KindByte TreeKind.Workspace byte = byte ≡ 4
+
+-- section 4, READING-RULES 7.2, tests 7 to 21: the header's fields
+pub record HeaderHolds (reference : TreeRef) (uuid : List ℕ) (kind : TreeKind) (expected_level : Option ℕ) (blocks : ℕ) (page : List ℕ) : Type 0 where
+  -- `CFSXPAGE`
+  pub magic_is : part page 0 8 ≡ 0x43 ∷ 0x46 ∷ 0x53 ∷ 0x58 ∷ 0x50 ∷ 0x41 ∷ 0x47 ∷ 0x45 ∷ []
   pub revision : u16_at page 8 ≡ 1
   pub flags : u16_at page 10 ≡ 0
-  pub kind_is : (page_kind page ≡ 1) ⊎ (page_kind page ≡ 2)
-  pub tree_kind_is : tree_kind page ≡ tree_kind_value kind
-  pub leaf_level : page_kind page ≡ 1 → level page ≡ 0
-  pub internal_level : page_kind page ≡ 2 → (1 ≤ level page) × (level page ≤ 7)
-  pub level_is : is_expected expected_level page ≡ true
+  pub level : LevelHolds expected_level page
+  pub tree_kind : KindByte kind (byte_at page 13)
   pub zero_15 : byte_at page 15 ≡ 0
-  pub zero_36 : all_zero (part page 36 4) ≡ true
-  pub zero_68 : all_zero (part page 68 12) ≡ true
-  pub block : self_block page ≡ reference.block
-  pub generation_is : generation page ≡ reference.generation
-  pub parent_newer : generation page ≤ parent_generation
+  pub block : u64_at page 16 ≡ reference.block
+  pub generation : u64_at page 24 ≡ reference.generation
+  pub payload_fits : u16_at page 34 ≤ 4016
+  pub zero_36 : part page 36 4 ≡ replicate 4 0
   pub uuid_is : part page 40 16 ≡ uuid
-  pub payload_fits : payload_length page ≤ 4016
-  pub total_fits_in : total page ≤ blocks
-  pub total_allowed_in : total_allowed kind page ≡ true
+  pub total_fits : u64_at page 56 ≤ blocks
+  pub total_allowed : (kind ≡ TreeKind.Catalog → ⊥) → u64_at page 56 ≡ 0
+  pub checksum : u32_at page 64 ≡ crc32c_with_zero page 64 68
+  pub zero_68 : part page 68 12 ≡ replicate 12 0
 
--- the records are accepted (the crate walk says plainly when), a leaf's total is theirs, zeros follow, and an internal page has two children at least
+-- section 4: the payload, from byte 80 on as long as the u16 at 34 says, holds the records that the u16 at 32 counts: a leaf's with the total at 56, or an internal page's, two children at least; zeros follow
 pub record ContentHolds (kind : TreeKind) (blocks : ℕ) (page : List ℕ) : Type 0 where
-  pub records : number_check (validate_page_records kind blocks page) ≡ Ok tt
-  pub leaf_total : page_kind page ≡ 1 → total page ≡ number_of (validate_page_records kind blocks page)
-  pub padding : all_zero (drop (80 + payload_length page) page) ≡ true
-  pub children : page_kind page ≡ 2 → 2 ≤ count page
+  pub leaf : byte_at page 12 ≡ 1 → LeafRecords kind blocks (u64_at page 24) (part page 80 (u16_at page 34)) (u16_at page 32) (u64_at page 56)
+  pub internal : byte_at page 12 ≡ 2 → InternalRecords kind blocks (u64_at page 24) (part page 80 (u16_at page 34)) (u16_at page 32) × (2 ≤ u16_at page 32)
+  pub padding : drop (80 + u16_at page 34) page ≡ replicate (4016 - u16_at page 34) 0
 
 -- section 4: what holds of an accepted page
 pub record PageHolds (reference : TreeRef) (uuid : List ℕ) (kind : TreeKind) (parent_generation : ℕ) (expected_level : Option ℕ) (blocks : ℕ) (page : List ℕ) : Type 0 where
-  pub caller : CallerHolds reference uuid kind parent_generation expected_level blocks page
-  pub header : HeaderHolds reference uuid kind parent_generation expected_level blocks page
+  pub caller : CallerHolds reference uuid kind parent_generation blocks page
+  pub header : HeaderHolds reference uuid kind expected_level blocks page
   pub content : ContentHolds kind blocks page
 
--- `decode_page` accepts a page exactly when these hold, and then answers what it states
+-- section 4: what is answered of it: level, total and count as they stand in it, and where its payload starts and ends
+pub record PageStates (page : List ℕ) (answer : Page) : Type 0 where
+  pub level : answer.level ≡ byte_at page 14
+  pub total : answer.data_blocks ≡ u64_at page 56
+  pub count : answer.count ≡ u16_at page 32
+  pub start : answer.start ≡ 80
+  pub end : answer.end ≡ 80 + u16_at page 34
+
+-- `decode_page` accepts a block of bytes exactly when these hold, and then answers what it states
 abbrev pub PageExactly : Type 0
 PageExactly =
     (reference : TreeRef) (uuid : List ℕ) (kind : TreeKind) (parent_generation : ℕ) (expected_level : Option ℕ) (blocks : ℕ) (page : List ℕ) (answer : Page)
-    → (decode_page reference uuid kind parent_generation expected_level blocks page ≡ Ok answer) ↔ (PageHolds reference uuid kind parent_generation expected_level blocks page × (answer ≡ accepted_page page))
+    → Bytes page → (decode_page reference uuid kind parent_generation expected_level blocks page ≡ Ok answer) ↔ (PageHolds reference uuid kind parent_generation expected_level blocks page × PageStates page answer)
+
+-- section 4, "Return classes": it answers class 0 exactly on such blocks of bytes
+abbrev pub PageAcceptedExactly : Type 0
+PageAcceptedExactly =
+    (reference : TreeRef) (uuid : List ℕ) (kind : TreeKind) (parent_generation : ℕ) (expected_level : Option ℕ) (blocks : ℕ) (page : List ℕ)
+    → Bytes page → (check_class (decode_page reference uuid kind parent_generation expected_level blocks page) ≡ 0) ↔ PageHolds reference uuid kind parent_generation expected_level blocks page

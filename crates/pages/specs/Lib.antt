@@ -1,2 +1,5 @@
+pub mod Records
 pub mod Accept
 pub mod Agree
+pub mod Empty
+pub mod Lookups

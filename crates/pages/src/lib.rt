@@ -1,3 +1,3 @@
-// No code: which pages are accepted, plainly, and when two accepted pages agree. No contract rests on it.
+// No code: which pages are accepted, plainly, what a lookup finds on one, and when two accepted pages agree. No contract rests on it.
 
 #![tactic(auto)]

@@ -5,7 +5,7 @@ use Rattle.error.specs.Answer.{Check}
 use Rattle.std.specs.Prelude.{Result, Ok, Err}
 use Rattle.error.specs.declared.Error.{Error}
 use Rattle.error.specs.Answer.{Number}
-use Rattle.error.specs.Answer.{violation_of, number_check}
+use Rattle.error.specs.Answer.{class_of, reason_of, violation_of, number_check}
 use Rattle.error.specs.Demand.{Demand, ◌otherwise◌, passing, outcome, demands}
 use Rattle.error.specs.Reason as reason
 use Rattle.volume.specs.declared.TreeRef.{TreeRef}
@@ -78,6 +78,11 @@ Child = Result TreeRef Error
 -- 01, "Return classes": the first that fails answers; else the child's reference
 unfoldable pub validate_internal_record : TreeKind → List ℕ → List ℕ → ℕ → ℕ → Validation → Child
 validate_internal_record kind key value blocks page_generation mode = outcome (internal_demands kind key value blocks page_generation mode) (Ok (child_ref value))
+
+-- 01, "Return classes": class, reason, block and generation of the page that the record names
+unfoldable pub child_words : Child → List ℕ
+child_words (Ok reference) = 0 ∷ 0 ∷ reference.block ∷ reference.generation ∷ []
+child_words (Err e) = class_of e ∷ reason_of e ∷ 0 ∷ 0 ∷ []
 
 -- that answer, as that of a check that gives a number: the block of the page that the record names
 abbrev pub child_block : Child → Number

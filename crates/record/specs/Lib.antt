@@ -3,6 +3,5 @@ pub mod Cleanup
 pub mod Workspace
 pub mod Internal
 pub mod Leaf
-pub mod Accept
 pub mod Cases
 pub mod Inside

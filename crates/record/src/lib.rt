@@ -2,11 +2,12 @@
 #![tactic(auto)]
 
 ghost use Rattle.std.specs.Prelude.{◌≡◌, ◌≤◌, length};
+ghost use Rattle.error.specs.Answer.{check_words, number_words};
 ghost use Rattle.record.specs.Allocation.{validate_group_index, block_taken, taken_between, reserved_taken, validate_allocation_group};
 ghost use Rattle.record.specs.Inside.{bytes_full, catalog_leaf};
 ghost use Rattle.record.specs.Cleanup.{validate_retirement, is_kind_range, validate_detached_tree, validate_orphan_marker, validate_cleanup_key_value, cleanup_number, cleanup_block};
 ghost use Rattle.record.specs.Workspace.{validate_workspace_key, validate_workspace_run};
-ghost use Rattle.record.specs.Internal.{allocation_internal_key, retirement_key, cleanup_internal_key, internal_key, validate_internal_record};
+ghost use Rattle.record.specs.Internal.{allocation_internal_key, retirement_key, cleanup_internal_key, internal_key, validate_internal_record, child_words};
 ghost use Rattle.record.specs.Leaf.{validate_leaf_record, leaf_record_blocks};
 
 use error::{Error, Validation, reason};
@@ -101,7 +102,8 @@ pub fn validate_allocation_group(
     blocks: u64,
     mode: Validation,
 ) -> Result<(), Error>
-    ensures { result ≡ validate_allocation_group key.now value.now blocks mode }
+    ensures answer { result ≡ validate_allocation_group key.now value.now blocks mode }
+    ensures words { check_words result ≡ check_words (validate_allocation_group key.now value.now blocks mode) }
 {
     if key.len() != 8 {
         return Err(error::violation(mode, reason::INVALID_ALLOCATION_GROUP));
@@ -260,7 +262,8 @@ pub fn validate_cleanup_key_value(
     page_generation: u64,
     mode: Validation,
 ) -> Result<(), Error>
-    ensures { result ≡ validate_cleanup_key_value key.now value.now blocks page_generation mode }
+    ensures answer { result ≡ validate_cleanup_key_value key.now value.now blocks page_generation mode }
+    ensures words { check_words result ≡ check_words (validate_cleanup_key_value key.now value.now blocks page_generation mode) }
 {
     if key.len() != 9 && key.len() != 17 {
         return Err(error::violation(mode, reason::INVALID_CLEANUP_KEY_LENGTH));
@@ -281,7 +284,8 @@ pub fn validate_cleanup_key_value(
 // Check the key of a workspace record: a block that is not reserved.
 #[tactic(auto, unfolding(crate::specs::Workspace::validate_workspace_key, error::specs::Demand::outcome))]
 pub fn validate_workspace_key(key: &[u8], blocks: u64, mode: Validation) -> Result<(), Error>
-    ensures { result ≡ validate_workspace_key key.now blocks mode }
+    ensures answer { result ≡ validate_workspace_key key.now blocks mode }
+    ensures words { check_words result ≡ check_words (validate_workspace_key key.now blocks mode) }
 {
     if key.len() != 8 {
         return Err(error::violation(mode, reason::WORKSPACE_KEY_LENGTH));
@@ -300,7 +304,8 @@ pub fn validate_workspace_run(
     blocks: u64,
     mode: Validation,
 ) -> Result<(), Error>
-    ensures { result ≡ validate_workspace_run key.now value.now blocks mode }
+    ensures answer { result ≡ validate_workspace_run key.now value.now blocks mode }
+    ensures words { check_words result ≡ check_words (validate_workspace_run key.now value.now blocks mode) }
 {
     validate_workspace_key(key, blocks, mode)?;
     if value.len() != 4 {
@@ -346,7 +351,8 @@ pub fn validate_internal_record(
     page_generation: u64,
     mode: Validation,
 ) -> Result<TreeRef, Error>
-    ensures { result ≡ validate_internal_record kind key.now value.now blocks page_generation mode }
+    ensures answer { result ≡ validate_internal_record kind key.now value.now blocks page_generation mode }
+    ensures words { child_words result ≡ child_words (validate_internal_record kind key.now value.now blocks page_generation mode) }
 {
     let context = Context {
         blocks,
@@ -391,7 +397,8 @@ pub fn validate_leaf_record(
     page_generation: u64,
     mode: Validation,
 ) -> Result<u64, Error>
-    ensures { result ≡ validate_leaf_record kind key.now value.now blocks page_generation mode }
+    ensures answer { result ≡ validate_leaf_record kind key.now value.now blocks page_generation mode }
+    ensures words { number_words result ≡ number_words (validate_leaf_record kind key.now value.now blocks page_generation mode) }
 {
     match kind {
         TreeKind::Catalog => return catalog_leaf(key, value, blocks, mode),
@@ -411,7 +418,8 @@ pub fn leaf_record_blocks(
     blocks: u64,
     generation: u64,
 ) -> Result<u64, Error>
-    ensures { result ≡ leaf_record_blocks kind key.now value.now blocks generation }
+    ensures answer { result ≡ leaf_record_blocks kind key.now value.now blocks generation }
+    ensures words { number_words result ≡ number_words (leaf_record_blocks kind key.now value.now blocks generation) }
 {
     if !(1..=1024).contains(&key.len()) {
         return Err(Error::InvalidInput(reason::INVALID_RECORD_KEY_LENGTH));

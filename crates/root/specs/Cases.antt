@@ -1,7 +1,8 @@
 -- The [P] cases of 01, section 3, of the definitions; one theorem, `proofs/Cases`, carries them all.
-use Rattle.std.specs.Prelude.{ℕ, ◌≡◌, Bool, true, not, ◌&&◌, List, [], ◌∷◌, eqb, length}
+use Rattle.std.specs.Prelude.{ℕ, ◌≡◌, Bool, true, ◌&&◌, List, [], ◌∷◌, eqb, length}
 use Rattle.error.specs.Answer.{check_class, check_reason}
 use Rattle.error.specs.Demand.{is_passed, all_true}
+use Rattle.error.specs.Cases.{is_refused}
 use Rattle.error.specs.Reason as reason
 use Rattle.utf8.specs.Rfc3629.{number}
 use Rattle.root.specs.Label.{dots, label_new}
@@ -10,6 +11,10 @@ use Rattle.root.specs.Root.{root_decode}
 -- the text makes a label
 abbrev pub is_new : List ℕ → Bool
 is_new text = is_passed (label_new text)
+
+-- the text makes none: the caller's part is at fault
+abbrev pub is_no_label : List ℕ → Bool
+is_no_label text = is_refused 2 reason.invalid_volume_label (label_new text)
 
 -- U+009F, two bytes in UTF-8
 abbrev pub u009f : List ℕ
@@ -20,8 +25,8 @@ unfoldable pub cases : List Bool
 cases =
     -- `-` is a label, `..` isn't, U+009F isn't
     is_new (0x2D ∷ [])
-    ∷ not (is_new dots)
-    ∷ (eqb (number u009f) 0x9F && not (is_new u009f))
+    ∷ is_no_label dots
+    ∷ (eqb (number u009f) 0x9F && is_no_label u009f)
     ∷ []
 
 -- a root of so many bytes, in any slot of a volume of so many blocks, answers this class and reason

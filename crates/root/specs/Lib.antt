@@ -3,3 +3,4 @@ pub mod Fields
 pub mod Root
 pub mod Select
 pub mod Cases
+pub mod Words

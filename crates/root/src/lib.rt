@@ -2,6 +2,8 @@
 #![tactic(auto)]
 
 ghost use Rattle.std.specs.Prelude.{◌≡◌, ◌+◌, ◌≤◌, length};
+ghost use Rattle.error.specs.Answer.{check_words};
+ghost use Rattle.root.specs.Words.{label_words, root_words, root_text, supported_words, choice_words};
 ghost use Rattle.octets.specs.Bytes.{part};
 ghost use Rattle.octets.specs.Number.{u16_at};
 ghost use Rattle.root.specs.Label.{is_label, label_of, label_new};
@@ -73,7 +75,8 @@ impl Label {
 
     #[tactic(auto, using(crate::proofs::Text::label_short), unfolding(crate::specs::Label::label_new, error::specs::Demand::outcome))]
     pub fn new(label: &[u8]) -> Result<Label, Error>
-        ensures { result ≡ label_new label.now }
+        ensures answer { result ≡ label_new label.now }
+        ensures words { label_words result ≡ label_words (label_new label.now) }
     {
         if !is_label(label) {
             return Err(Error::InvalidInput(reason::INVALID_VOLUME_LABEL));
@@ -335,7 +338,8 @@ pub fn validate_root_fields(
     blocks: u64,
     mode: Validation,
 ) -> Result<(), Error>
-    ensures { result ≡ validate_root_fields root.now slot blocks mode }
+    ensures answer { result ≡ validate_root_fields root.now slot blocks mode }
+    ensures words { check_words result ≡ check_words (validate_root_fields root.now slot blocks mode) }
 {
     check_general(root, slot, blocks, mode)?;
     check_refs(root, blocks, mode)?;
@@ -405,7 +409,9 @@ impl Root {
     // The root in the slot of a volume of so many blocks, read from the slot's block.
     #[tactic(auto, using(crate::proofs::Decode::block_size, crate::proofs::Decode::block_label), unfolding(crate::specs::Root::root_decode, error::specs::Demand::outcome))]
     pub fn decode(bytes: &[u8], slot: u64, blocks: u64) -> Result<Root, Error>
-        ensures { result ≡ root_decode bytes.now slot blocks }
+        ensures answer { result ≡ root_decode bytes.now slot blocks }
+        ensures words { root_words result ≡ root_words (root_decode bytes.now slot blocks) }
+        ensures text { root_text result ≡ root_text (root_decode bytes.now slot blocks) }
     {
         check_block(bytes, slot, blocks)?;
         let root = root_of(bytes);
@@ -432,7 +438,8 @@ fn select_pair(a: Root, b: Root) -> Result<Selected, Error>
 
 // The current root of the two slots' roots.
 pub fn select_root(a: Option<Root>, b: Option<Root>) -> Result<Selected, Error>
-    ensures { result ≡ select_root a b }
+    ensures answer { result ≡ select_root a b }
+    ensures words { choice_words result ≡ choice_words (select_root a b) }
 {
     match (a, b) {
         (None, None) => Err(Error::Corrupt(reason::NEITHER_CURRENT_ROOT_IS_VALID)),
@@ -444,7 +451,8 @@ pub fn select_root(a: Option<Root>, b: Option<Root>) -> Result<Selected, Error>
 
 // A corrupt root counts as none; any other refusal is passed on.
 pub fn supported_root(root: Result<Root, Error>) -> Result<Option<Root>, Error>
-    ensures { result ≡ supported_root root }
+    ensures answer { result ≡ supported_root root }
+    ensures words { supported_words result ≡ supported_words (supported_root root) }
 {
     match root {
         Err(Error::Corrupt(_)) => Ok(None),
@@ -457,7 +465,8 @@ pub fn choose_root(
     a: Result<Option<Root>, Error>,
     b: Result<Option<Root>, Error>,
 ) -> Result<Selected, Error>
-    ensures { result ≡ choose_root a b }
+    ensures answer { result ≡ choose_root a b }
+    ensures words { choice_words result ≡ choice_words (choose_root a b) }
 {
     select_root(a?, b?)
 }

@@ -8,7 +8,8 @@ use native.Mathlib.Decide.{dec_lt}
 use native.Mathlib.Omega.{arith}
 use borrow.Author.Tests.{le-leb, leb-true, lt-ltb, ltb-true, eq-eqb, ne_eqb, eqb-true, eqb-false, not-true}
 use lib.Dec.{leb, eqb}
-use lib.ListN.{length}
+use lib.ListN.{length, replicate}
+use Rattle.error.specs.declared.Validation.{Validation}
 use Rattle.error.specs.declared.Validation.TheVariants.{Input, Disk}
 use Rattle.std.specs.Prelude.{Ok}
 use Rattle.error.specs.Demand.{is_passed, AllHold}
@@ -18,17 +19,19 @@ use Rattle.octets.specs.Bytes.{part, all_zero, same_bytes, starts_with}
 use Rattle.octets.specs.Number.{u32_at, u64_at}
 use Rattle.octets.proofs.Join.{part_length}
 use Rattle.octets.proofs.Same.{same_is, same_self}
+use Rattle.octets.proofs.Zero.{zeros_are, zeros_zero}
 use Rattle.crc.specs.Crc.{crc32c_with_zero}
 use Rattle.utf8.proofs.Grammar.{utf8_is_grammar}
 use Rattle.volume.specs.Blocks.{is_bank_root}
 use Rattle.volume.specs.References.{ref_at, validate_root_slot, validate_uuid, validate_tree_ref, validate_workspace_ref}
+use Rattle.volume.specs.Accept.{TreeRefHolds}
+use Rattle.volume.proofs.Accept.{blocks_exactly, bank_root_exactly, bank_root_is, tree_ref_exactly, workspace_ref_exactly, root_slot_exactly, uuid_exactly, groups_exactly}
 use Rattle.root.specs.declared.Root.{Root}
 use Rattle.root.specs.Fields.{general_demands, check_general, refs_demands, check_refs, workspace_demands, check_workspace, trees_demands, check_trees, max_id, numbers_demands, check_numbers, field_demands, validate_root_fields}
 use Rattle.volume.specs.Groups.{groups_of}
 use Rattle.root.specs.Root.{magic, label_length, label_text, label_padding, root_of, place_demands, check_place, checksum_fits, are_sizes_right, envelope_demands, check_envelope, text_demands, check_text, label_field_demands, check_label, identity_demands, check_identity, block_demands, check_block, root_demands, root_decode}
 use Rattle.roots.specs.Accept.{LabelHolds, TreeHolds, RootHolds, RootExactly}
 use Rattle.roots.proofs.LabelAccept.{label_accepted, accepted_label}
-use Rattle.roots.proofs.Refs.{zeros_are, zeros_zero, enough_blocks, slot_place, place_slot, uuid_some, some_uuid, tree_holds, holds_tree, workspace_holds, holds_workspace, bank_root, is_bank_root_lem}
 
 -- ---- three tests joined
 
@@ -45,7 +48,7 @@ differs : (a b : ℕ) → (a ≡ b → ⊥) → not (eqb a b) ≡ true
 differs a b n = not_yes (eqb a b) (ne_eqb a b n)
 
 -- three distinct non-reserved blocks leave room for three
-pub three_fit : (a b c blocks : ℕ) → 512 ≤ a → a < blocks - 512 → 512 ≤ b → b < blocks - 512 → 512 ≤ c → c < blocks - 512
+pub three_fit : (a b c blocks : ℕ) → 512 ≤ a → a + 512 < blocks → 512 ≤ b → b + 512 < blocks → 512 ≤ c → c + 512 < blocks
     → (a ≡ b → ⊥) → (a ≡ c → ⊥) → (b ≡ c → ⊥) → 1027 ≤ blocks
 three_fit a b c blocks la ha lb hb lc hc ab ac bc = go (dec_lt a b) (dec_lt a c) (dec_lt b c)
   where
@@ -58,6 +61,10 @@ three_fit a b c blocks la ha lb hb lc hc ab ac bc = go (dec_lt a b) (dec_lt a c)
     go (no p) (yes q) (no r) = omega arith
     go (no p) (no q) (yes r) = omega arith
     go (no p) (no q) (no r) = omega arith
+
+-- a UUID's sixteen bytes, were they zeros
+sixteen : (s : List ℕ) → length s ≡ 4096 → replicate {A = ℕ} (length (part s 24 16)) 0 ≡ replicate 16 0
+sixteen s l = ap (λ (n : ℕ). replicate {A = ℕ} n 0) (part_length s 24 16 (omega arith))
 
 -- ---- the call's answer, and its two groups of checks
 
@@ -77,9 +84,6 @@ label_holds : (s : List ℕ) (n : ℕ) (b : Bool) → eqb n 0 ≡ b → is_passe
 unfolding check_text
 label_holds s n true p e = inl (eqb-true n 0 p)
 label_holds s n false p e = inr (label_accepted (label_text s) (all_hold (text_demands (label_text s)) (passed_is (check_text (label_text s)) e)).1.0)
-
-tree_accepted : (block born generation blocks : ℕ) → (512 ≤ block) × (block < blocks - 512) × (1 ≤ born) → born ≤ generation → TreeHolds block born generation blocks
-tree_accepted block born generation blocks t n = record { low = t.0; high = t.1; some = t.2; not_newer = n }
 
 module _ (s : List ℕ) (slot blocks : ℕ) (p : check_block s slot blocks ≡ Ok tt) (q : validate_root_fields (root_of s) slot blocks Disk ≡ Ok tt) where
   block : AllHold (block_demands s slot blocks)
@@ -126,8 +130,8 @@ module _ (s : List ℕ) (slot blocks : ℕ) (p : check_block s slot blocks ≡ O
   unfolding check_numbers
   numbers = all_hold (numbers_demands (root_of s) blocks Disk) (passed_is (check_numbers (root_of s) blocks Disk) fields.1.1.1.1.0)
 
-  tree : (offset : ℕ) → is_passed (validate_tree_ref (ref_at s offset) blocks Disk) ≡ true → (512 ≤ u64_at s offset) × (u64_at s offset < blocks - 512) × (1 ≤ u64_at s (offset + 8))
-  tree offset e = tree_holds (ref_at s offset) blocks Disk (passed_is (validate_tree_ref (ref_at s offset) blocks Disk) e)
+  tree : (offset : ℕ) → is_passed (validate_tree_ref (ref_at s offset) blocks Disk) ≡ true → TreeRefHolds (ref_at s offset) blocks
+  tree offset e = (tree_ref_exactly (ref_at s offset) blocks Disk).0 (passed_is (validate_tree_ref (ref_at s offset) blocks Disk) e)
 
   root_accepted : RootHolds s slot blocks
   unfolding root_of checksum_fits are_sizes_right label_text label_padding
@@ -150,18 +154,18 @@ module _ (s : List ℕ) (slot blocks : ℕ) (p : check_block s slot blocks ≡ O
       let ca = differ (u64_at s 64) (u64_at s 80) far.0 in
       let cl = differ (u64_at s 64) (u64_at s 96) far.1 in
       let al = differ (u64_at s 80) (u64_at s 96) far.2 in
-      let room = three_fit (u64_at s 64) (u64_at s 80) (u64_at s 96) blocks c.0 c.1 a.0 a.1 l.0 l.1 ca cl al in
+      let room = three_fit (u64_at s 64) (u64_at s 80) (u64_at s 96) blocks c.block.low c.block.high a.block.low a.block.high l.block.low l.block.high ca cl al in
       record {
         size = size;
         geometry = leb-true 1024 blocks place_is.1.0;
-        place = slot_place blocks Input slot (passed_is (validate_root_slot slot blocks Input) place_is.1.1.0);
+        place = ((root_slot_exactly slot blocks Input).0 (passed_is (validate_root_slot slot blocks Input) place_is.1.1.0)).place;
         checksum = sym (eqb-true (crc32c_with_zero s 4092 4096) (u32_at s 4092) envelope.0);
         magic_is = same_is (part s 0 8) magic envelope.1.0;
         revision = eqb-true (u32_at s 8) 1 envelope.1.1.0;
         record_bytes = eqb-true (u32_at s 12) 4096 sizes.0;
         allocation_bytes = eqb-true (u32_at s 16) 4096 sizes.1;
         unit_bytes = eqb-true (u32_at s 20) 65536 sizes.2;
-        label_length_of = few;
+        label_most = few;
         padding = zeros_are (label_padding s) (4092 - (186 + n)) (part_length s (186 + n) (4092 - (186 + n)) (omega arith)) label_is.1.0;
         label = label_holds s n (eqb n 0) refl label_is.1.1.0;
         features = eqb-true (u64_at s 128) 0 known.0;
@@ -170,18 +174,18 @@ module _ (s : List ℕ) (slot blocks : ℕ) (p : check_block s slot blocks ≡ O
         reserve = eqb-true (u64_at s 144) 16384 identity.1.1.0;
         self_block = eqb-true (u64_at s 40) slot (and_left (eqb (u64_at s 40) slot) (eqb (u64_at s 56) blocks) own);
         own_blocks = eqb-true (u64_at s 56) blocks (and_right (eqb (u64_at s 40) slot) (eqb (u64_at s 56) blocks) own);
-        uuid = uuid_some (part s 24 16) Disk (passed_is (validate_uuid (part s 24 16) Disk) general.1.1.0);
+        uuid = λ z. (uuid_exactly (part s 24 16) Disk).0 (passed_is (validate_uuid (part s 24 16) Disk) general.1.1.0) (z ∙ sym (sixteen s size));
         generation = let z = differ (u64_at s 48) 0 (and_left (not (eqb (u64_at s 48) 0)) (eqb (u64_at s 56) blocks) kept) in omega arith;
-        catalog = tree_accepted (u64_at s 64) (u64_at s 72) (u64_at s 48) blocks c (leb-true (u64_at s 72) (u64_at s 48) old.0);
-        allocation = tree_accepted (u64_at s 80) (u64_at s 88) (u64_at s 48) blocks a (leb-true (u64_at s 88) (u64_at s 48) old.1);
-        cleanup = tree_accepted (u64_at s 96) (u64_at s 104) (u64_at s 48) blocks l (leb-true (u64_at s 104) (u64_at s 48) old.2);
+        catalog = record { reference_holds = c; not_newer = leb-true (u64_at s 72) (u64_at s 48) old.0 };
+        allocation = record { reference_holds = a; not_newer = leb-true (u64_at s 88) (u64_at s 48) old.1 };
+        cleanup = record { reference_holds = l; not_newer = leb-true (u64_at s 104) (u64_at s 48) old.2 };
         catalog_allocation = ca;
         catalog_cleanup = cl;
         allocation_cleanup = al;
-        workspace = bank_root (u64_at s 160) blocks (and_left (is_bank_root (u64_at s 160) blocks) (leb (u64_at s 168) (u64_at s 48)) bank);
-        workspace_some = workspace_holds (ref_at s 160) blocks Disk (passed_is (validate_workspace_ref (ref_at s 160) blocks Disk) workspace_is.0);
+        workspace = ((bank_root_exactly (u64_at s 160) blocks).0 (and_left (is_bank_root (u64_at s 160) blocks) (leb (u64_at s 168) (u64_at s 48)) bank)).1;
+        workspace_generation_least = ((workspace_ref_exactly (ref_at s 160) blocks Disk).0 (passed_is (validate_workspace_ref (ref_at s 160) blocks Disk) workspace_is.0)).generation;
         workspace_not_newer = leb-true (u64_at s 168) (u64_at s 48) (and_right (is_bank_root (u64_at s 160) blocks) (leb (u64_at s 168) (u64_at s 48)) bank);
-        cursor = ltb-true (u64_at s 176) (groups_of blocks) general.1.1.1.1.0;
+        cursor = (groups_exactly (u64_at s 176) blocks).0 (ltb-true (u64_at s 176) (groups_of blocks) general.1.1.1.1.0);
         next_object_least = leb-true 2 (u64_at s 112) (and_left (leb 2 (u64_at s 112)) (leb (u64_at s 112) max_id) object);
         next_object_most = leb-true (u64_at s 112) max_id (and_right (leb 2 (u64_at s 112)) (leb (u64_at s 112) max_id) object);
         next_job_least = leb-true 1 (u64_at s 152) (and_left (leb 1 (u64_at s 152)) (leb (u64_at s 152) max_id) job);
@@ -192,11 +196,14 @@ module _ (s : List ℕ) (slot blocks : ℕ) (p : check_block s slot blocks ≡ O
 -- ---- what meets the conditions passes
 
 module _ (s : List ℕ) (slot blocks : ℕ) (r : RootHolds s slot blocks) where
+  slot_passes : (mode : Validation) → validate_root_slot slot blocks mode ≡ Ok tt
+  slot_passes mode = (root_slot_exactly slot blocks mode).1 (record { geometry = r.geometry; place = r.place })
+
   place_passes : check_place s slot blocks ≡ Ok tt
   unfolding check_place
   place_passes =
       all_pass (place_demands s slot blocks)
-      (eq-eqb (length s) 4096 r.size, (le-leb 1024 blocks r.geometry, (passed_test (validate_root_slot slot blocks Input) tt (place_slot blocks Input slot r.geometry r.place), tt)))
+      (eq-eqb (length s) 4096 r.size, (le-leb 1024 blocks r.geometry, (passed_test (validate_root_slot slot blocks Input) tt (slot_passes Input), tt)))
 
   envelope_passes : check_envelope s ≡ Ok tt
   unfolding check_envelope checksum_fits are_sizes_right
@@ -218,7 +225,7 @@ module _ (s : List ℕ) (slot blocks : ℕ) (r : RootHolds s slot blocks) where
   label_passes =
       let n = label_length s in
       let zeros : all_zero (label_padding s) ≡ true = ap all_zero r.padding ∙ zeros_zero (4092 - (186 + n)) in
-      all_pass (label_field_demands s) (le-leb n 255 r.label_length_of, (zeros, (text_passes n (eqb n 0) refl r.label, tt)))
+      all_pass (label_field_demands s) (le-leb n 255 r.label_most, (zeros, (text_passes n (eqb n 0) refl r.label, tt)))
 
   identity_passes : check_identity s slot blocks ≡ Ok tt
   unfolding check_identity
@@ -236,13 +243,13 @@ module _ (s : List ℕ) (slot blocks : ℕ) (r : RootHolds s slot blocks) where
   general_passes : check_general (root_of s) slot blocks Disk ≡ Ok tt
   unfolding root_of check_general
   general_passes =
-      let uuid : validate_uuid (part s 24 16) Disk ≡ Ok tt = some_uuid (part s 24 16) Disk (part_length s 24 16 (omega (arith, r.size))) r.uuid in
+      let uuid : validate_uuid (part s 24 16) Disk ≡ Ok tt = (uuid_exactly (part s 24 16) Disk).1 (λ z. r.uuid (z ∙ sixteen s r.size)) in
       let kept = and_both (not (eqb (u64_at s 48) 0)) (eqb (u64_at s 56) blocks) (differs (u64_at s 48) 0 (omega (arith, r.generation))) (eq-eqb (u64_at s 56) blocks r.own_blocks) in
       all_pass (general_demands (root_of s) slot blocks Disk)
-      (passed_test _ tt (enough_blocks blocks Disk r.geometry), (passed_test _ tt (place_slot blocks Disk slot r.geometry r.place), (passed_test _ tt uuid, (kept, (lt-ltb (u64_at s 176) (groups_of blocks) r.cursor, tt)))))
+      (passed_test _ tt ((blocks_exactly blocks Disk).1 r.geometry), (passed_test _ tt (slot_passes Disk), (passed_test _ tt uuid, (kept, (lt-ltb (u64_at s 176) (groups_of blocks) ((groups_exactly (u64_at s 176) blocks).1 r.cursor), tt)))))
 
-  tree_passes : (offset : ℕ) → TreeHolds (u64_at s offset) (u64_at s (offset + 8)) (u64_at s 48) blocks → validate_tree_ref (ref_at s offset) blocks Disk ≡ Ok tt
-  tree_passes offset t = holds_tree (ref_at s offset) blocks Disk r.geometry t.low t.high t.some
+  tree_passes : (offset : ℕ) → TreeHolds (ref_at s offset) (u64_at s 48) blocks → validate_tree_ref (ref_at s offset) blocks Disk ≡ Ok tt
+  tree_passes offset t = (tree_ref_exactly (ref_at s offset) blocks Disk).1 t.reference_holds
 
   refs_pass : check_refs (root_of s) blocks Disk ≡ Ok tt
   unfolding root_of check_refs
@@ -253,9 +260,9 @@ module _ (s : List ℕ) (slot blocks : ℕ) (r : RootHolds s slot blocks) where
   workspace_passes : check_workspace (root_of s) blocks Disk ≡ Ok tt
   unfolding root_of check_workspace
   workspace_passes =
-      let bank = and_both (is_bank_root (u64_at s 160) blocks) (leb (u64_at s 168) (u64_at s 48)) (is_bank_root_lem (u64_at s 160) blocks r.geometry r.workspace) (le-leb (u64_at s 168) (u64_at s 48) r.workspace_not_newer) in
+      let bank = and_both (is_bank_root (u64_at s 160) blocks) (leb (u64_at s 168) (u64_at s 48)) ((bank_root_exactly (u64_at s 160) blocks).1 (r.geometry, r.workspace)) (le-leb (u64_at s 168) (u64_at s 48) r.workspace_not_newer) in
       all_pass (workspace_demands (root_of s) blocks Disk)
-      (passed_test _ tt (holds_workspace (ref_at s 160) blocks Disk r.geometry r.workspace r.workspace_some), (bank, tt))
+      (passed_test _ tt ((workspace_ref_exactly (ref_at s 160) blocks Disk).1 (record { generation = r.workspace_generation_least; block = bank_root_is (u64_at s 160) blocks r.geometry r.workspace })), (bank, tt))
 
   trees_pass : check_trees (root_of s) Disk ≡ Ok tt
   unfolding root_of check_trees

@@ -54,11 +54,11 @@ module _ (slot b c : ℕ) (s t : List ℕ) (bs : Bytes s) (bt : Bytes t) (g : Ro
 
   text_length : length (label_text s) ≡ label_length s
   unfolding label_text
-  text_length = part_length s 186 (label_length s) (omega (arith, g.size, g.label_length_of))
+  text_length = part_length s 186 (label_length s) (omega (arith, g.size, g.label_most))
 
   text_length_t : length (label_text t) ≡ label_length t
   unfolding label_text
-  text_length_t = part_length t 186 (label_length t) (omega (arith, h.size, h.label_length_of))
+  text_length_t = part_length t 186 (label_length t) (omega (arith, h.size, h.label_most))
 
   -- the label's length and text follow from the returned label
   label_same : LabelsAgree (label_in s) (label_in t) → (label_length s ≡ label_length t) × (label_text s ≡ label_text t)
@@ -70,9 +70,9 @@ module _ (slot b c : ℕ) (s t : List ℕ) (bs : Bytes s) (bt : Bytes t) (g : Ro
           → (label_length s ≡ label_length t) × (label_text s ≡ label_text t)
       go true true p q l = (
         sym text_length ∙ sym (len_of (label_text s)) ∙ l.length_same ∙ len_of (label_text t) ∙ text_length_t,
-        sym (text_of_lem (label_text s) (omega (arith, text_length, g.label_length_of)))
+        sym (text_of_lem (label_text s) (omega (arith, text_length, g.label_most)))
             ∙ l.text_same
-            ∙ text_of_lem (label_text t) (omega (arith, text_length_t, h.label_length_of)),
+            ∙ text_of_lem (label_text t) (omega (arith, text_length_t, h.label_most)),
       )
       go true false p q l = absurd l
       go false true p q l = absurd l
@@ -137,7 +137,7 @@ module _ (slot b c : ℕ) (s t : List ℕ) (bs : Bytes s) (bt : Bytes t) (g : Ro
         grow s t 186 n rest ((label_same a.label).1 ∙ ap (λ (k : ℕ). part t 186 k) (sym e)) in
         let zeros : part s (186 + n) (4092 - (186 + n)) ≡ part t (186 + n) (4092 - (186 + n)) =
         g.padding ∙ ap (λ (k : ℕ). replicate (4092 - (186 + k)) 0) e ∙ sym h.padding ∙ ap (λ (k : ℕ). part t (186 + k) (4092 - (186 + k))) (sym e) in
-        let z : 186 + n + (4092 - (186 + n)) ≡ 4092 = omega (arith, g.label_length_of) in
+        let z : 186 + n + (4092 - (186 + n)) ≡ 4092 = omega (arith, g.label_most) in
         ap (λ (k : ℕ). take k s) (sym z) ∙ grow s t (186 + n) (4092 - (186 + n)) text zeros ∙ ap (λ (k : ℕ). take k t) z
 
     -- 4092 to 4096: the checksum of the rest

@@ -12,6 +12,7 @@ use Rattle.error.proofs.Exactly.{given_exactly}
 use Rattle.error.proofs.Tests.{and_left, and_right, and_both, and_first, and_second}
 use Rattle.octets.specs.Bytes.{same_bytes}
 use Rattle.octets.proofs.Same.{same_is, same_self}
+use Rattle.volume.proofs.Accept.{never_holds}
 use Rattle.utf8.specs.Rfc3629.{Utf8, number}
 use Rattle.utf8.specs.Rfc3629.Utf8.{none, more}
 use Rattle.utf8.specs.Reading.{◌from◌to◌, read}
@@ -22,7 +23,6 @@ use Rattle.root.specs.Label.{dot, dots, is_label, label_of, label_demands, label
 use Rattle.roots.specs.Accept.{HasCharacter, MayStand, LabelHolds, LabelExactly}
 use Rattle.roots.specs.Accept.HasCharacter.{here, later}
 use Rattle.root.proofs.Text.{tests_hold, holds_tests}
-use Rattle.roots.proofs.Refs.{never_holds}
 
 -- ---- characters
 

@@ -1,5 +1,5 @@
-pub mod Refs
 pub mod LabelAccept
 pub mod Accept
 pub mod Agree
 pub mod Choice
+pub mod Told

@@ -1,3 +1,3 @@
-// No code: which labels and roots are accepted, plainly, and when two accepted roots agree. No contract rests on it.
+// No code: which labels and roots are accepted, plainly, which of two roots is chosen, and when two accepted roots agree. No contract rests on it.
 
 #![tactic(auto)]

@@ -116,6 +116,7 @@ calls =
     ∷ 41 takes (root_numbers ++ root_numbers ++ uuid_string ∷ label_string ∷ uuid_string ∷ label_string ∷ [])
     ∷ 42 takes (kind_number ∷ byte_number ∷ any_number ∷ any_number ∷ flag_number ∷ any_number ∷ any_number ∷ any_string ∷ [])
     ∷ 43 takes (any_number ∷ any_number ∷ kind_number ∷ any_number ∷ byte_number ∷ any_number ∷ entry_count ∷ uuid_string ∷ any_string ∷ any_string ∷ [])
+    ∷ 44 takes (any_number ∷ any_number ∷ any_number ∷ any_number ∷ uuid_string ∷ any_string ∷ [])
     ∷ []
 
 -- a call without a row is unknown

@@ -102,6 +102,7 @@ fn items_in(call: u8) -> Option<&'static [Item]>
         43 => Some(&[
             ANY, ANY, KIND, ANY, BYTE, ANY, ENTRIES, UUID, STRING, STRING,
         ]),
+        44 => Some(&[ANY, ANY, ANY, ANY, UUID, STRING]),
         _ => None,
     }
 }

@@ -18,6 +18,6 @@ unfoldable pub is_bank_block : ℕ → ℕ → Bool
 is_bank_block block blocks =
     leb 1024 blocks && (leb 32 block && leb block 95 || leb (blocks - 96) block && leb block (blocks - 33))
 
--- 01, section 2: root slots are 256 and B - 257
+-- 01, section 2: root slots are 256 and B - 257, and B is at least 1,024
 unfoldable pub is_root_slot : ℕ → ℕ → Bool
-is_root_slot slot blocks = eqb slot 256 || eqb slot (blocks - 257)
+is_root_slot slot blocks = leb 1024 blocks && (eqb slot 256 || eqb slot (blocks - 257))

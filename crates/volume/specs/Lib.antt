@@ -3,3 +3,4 @@ pub mod Blocks
 pub mod References
 pub mod Groups
 pub mod Cases
+pub mod Accept

@@ -31,8 +31,12 @@ abbrev pub ref_at : List ℕ → ℕ → TreeRef
 ref_at s offset = record { block = u64_at s offset; generation = u64_at s (offset + 8) }
 
 -- 01, section 2: B is at least 1,024
+abbrev pub blocks_demands : ℕ → Validation → List Demand
+blocks_demands blocks mode = leb 1024 blocks otherwise violation_of mode reason.device_has_no_usable_block_range ∷ []
+
+-- 01, "Return classes": the first that fails answers
 unfoldable pub validate_blocks : ℕ → Validation → Check
-validate_blocks blocks mode = demands (leb 1024 blocks otherwise violation_of mode reason.device_has_no_usable_block_range ∷ [])
+validate_blocks blocks mode = demands (blocks_demands blocks mode)
 
 -- READING-RULES 5.2: B is at least 1,024; a reference names a generation, and its block lies where pages of its tree do
 abbrev pub ref_demands : TreeRef → ℕ → Validation → Bool → ℕ → List Demand
@@ -76,5 +80,9 @@ unfoldable pub validate_root_slot : ℕ → ℕ → Validation → Check
 validate_root_slot slot blocks mode = demands (root_slot_demands slot blocks mode)
 
 -- `validate_uuid`, READING-RULES 6.2: a UUID is not all zeros
+abbrev pub uuid_demands : List ℕ → Validation → List Demand
+uuid_demands uuid mode = not (all_zero uuid) otherwise violation_of mode reason.zero_volume_uuid ∷ []
+
+-- 01, "Return classes": the first that fails answers
 unfoldable pub validate_uuid : List ℕ → Validation → Check
-validate_uuid uuid mode = demands (not (all_zero uuid) otherwise violation_of mode reason.zero_volume_uuid ∷ [])
+validate_uuid uuid mode = demands (uuid_demands uuid mode)

@@ -2,6 +2,7 @@
 #![tactic(auto)]
 
 ghost use Rattle.std.specs.Prelude.{◌≡◌};
+ghost use Rattle.error.specs.Answer.{check_words, number_words};
 ghost use Rattle.volume.specs.Numbers.{sum_fits};
 ghost use Rattle.volume.specs.Blocks.{is_nonreserved_block, is_nonreserved_run, is_bank_root, is_bank_block, is_root_slot};
 ghost use Rattle.error.specs.Demand.{demands};
@@ -116,16 +117,18 @@ pub fn is_bank_block(block: u64, blocks: u64) -> bool
         && ((32..=95).contains(&block) || (blocks - 96..=blocks - 33).contains(&block))
 }
 
+// Whether the block is either slot of a root.
 #[tactic(auto, unfolding(crate::specs::Blocks::is_root_slot))]
 fn is_root_slot(slot: u64, blocks: u64) -> bool
     ensures { result ≡ is_root_slot slot blocks }
 {
-    slot == 256 || slot == blocks.saturating_sub(257)
+    RESERVED_TOTAL_BLOCKS <= blocks && (slot == 256 || slot == blocks - 257)
 }
 
 #[tactic(auto, unfolding(crate::specs::References::validate_blocks, error::specs::Demand::outcome))]
 pub fn validate_blocks(blocks: u64, mode: Validation) -> Result<(), Error>
-    ensures { result ≡ validate_blocks blocks mode }
+    ensures answer { result ≡ validate_blocks blocks mode }
+    ensures words { check_words result ≡ check_words (validate_blocks blocks mode) }
 {
     if blocks < RESERVED_TOTAL_BLOCKS {
         return Err(error::violation(mode, reason::DEVICE_HAS_NO_USABLE_BLOCK_RANGE));
@@ -154,7 +157,8 @@ fn validate_ref(
 
 #[tactic(auto, unfolding(crate::specs::References::validate_tree_ref))]
 pub fn validate_tree_ref(reference: TreeRef, blocks: u64, mode: Validation) -> Result<(), Error>
-    ensures { result ≡ validate_tree_ref reference blocks mode }
+    ensures answer { result ≡ validate_tree_ref reference blocks mode }
+    ensures words { check_words result ≡ check_words (validate_tree_ref reference blocks mode) }
 {
     let lies = is_nonreserved_block(reference.block, blocks);
     validate_ref(
@@ -186,7 +190,8 @@ pub fn validate_page_ref(
     blocks: u64,
     mode: Validation,
 ) -> Result<(), Error>
-    ensures { result ≡ validate_page_ref reference kind blocks mode }
+    ensures answer { result ≡ validate_page_ref reference kind blocks mode }
+    ensures words { check_words result ≡ check_words (validate_page_ref reference kind blocks mode) }
 {
     match kind {
         TreeKind::Catalog | TreeKind::Allocation | TreeKind::Cleanup => validate_tree_ref(
@@ -198,7 +203,8 @@ pub fn validate_page_ref(
 
 #[tactic(auto, unfolding(crate::specs::References::validate_root_slot, error::specs::Demand::outcome))]
 pub fn validate_root_slot(slot: u64, blocks: u64, mode: Validation) -> Result<(), Error>
-    ensures { result ≡ validate_root_slot slot blocks mode }
+    ensures answer { result ≡ validate_root_slot slot blocks mode }
+    ensures words { check_words result ≡ check_words (validate_root_slot slot blocks mode) }
 {
     validate_blocks(blocks, mode)?;
     if !is_root_slot(slot, blocks) {
@@ -209,7 +215,8 @@ pub fn validate_root_slot(slot: u64, blocks: u64, mode: Validation) -> Result<()
 
 #[tactic(auto, unfolding(crate::specs::References::validate_uuid, error::specs::Demand::outcome))]
 pub fn validate_uuid(uuid: &[u8; 16], mode: Validation) -> Result<(), Error>
-    ensures { result ≡ validate_uuid uuid.now mode }
+    ensures answer { result ≡ validate_uuid uuid.now mode }
+    ensures words { check_words result ≡ check_words (validate_uuid uuid.now mode) }
 {
     if octets::all_zero(uuid) {
         return Err(error::violation(mode, reason::ZERO_VOLUME_UUID));
@@ -228,7 +235,8 @@ pub fn groups_of(blocks: u64) -> u64
 // How many allocation groups the blocks fill, refused as in the Rust where its sum would pass 64 bits.
 #[tactic(auto, unfolding(crate::specs::Groups::allocation_group_count, error::specs::Demand::outcome))]
 pub fn allocation_group_count(blocks: u64) -> Result<u64, Error>
-    ensures { result ≡ allocation_group_count blocks }
+    ensures answer { result ≡ allocation_group_count blocks }
+    ensures words { number_words result ≡ number_words (allocation_group_count blocks) }
 {
     if !sum_fits(blocks, ALLOCATION_GROUP_BLOCKS - 1) {
         return Err(Error::Corrupt(reason::ALLOCATION_GROUP_RANGE));

@@ -1,6 +1,7 @@
 -- What a lookup finds in entries laid end to end, whatever the scratch.
 use mathlib.Core.Path.{◌≡◌, refl, sym, ap, ap₂, subst, ◌∙◌}
 use mathlib.Core.Bool.{true, false, true≢false}
+use mathlib.Core.Logic.{◌⊎◌, inl, inr}
 use mathlib.Core.List.Memᴰ
 use mathlib.Core.List.Memᴰ.{head as here}
 use mathlib.Core.List.Memᴰ.{not-nil as no_member}
@@ -13,19 +14,20 @@ use lib.ListN.{length, drop, get_or}
 use lib.Seq.{drop-cons, drop-drop}
 use Rattle.octets.specs.Bytes.{Bytes}
 use Rattle.octets.specs.Order.{order, is_greater}
+use Rattle.std.specs.declared.cmp.Ordering.TheVariants.{Greater}
 use Rattle.lookup.specs.Record.{split_record, is_record, size_of, key_of}
 use Rattle.lookup.specs.Floor.{floor_at, answer_of, next_record}
 use Rattle.lookup.specs.Sorted.{offset_of, key_at, Sorted, key_above, IsFloor}
 use Rattle.lookup.specs.declared.Floor.{Floor}
 use Rattle.std.specs.Prelude.{Option, Some, None}
 use Rattle.walk.specs.Entries.{Entry, stored, end_to_end, Increasing, Fit, Read}
-use Rattle.walk.specs.Found.{Finding, found, first_of, answer_found, lookup_in}
+use Rattle.walk.specs.Found.{Finding, found, nothing, first_of, answer_found, lookup_in}
 use Rattle.lookup.proofs.SortedLaws.{answers_same, floor_answers}
-use Rattle.octets.proofs.OrderLaws.{order_same, order_flip}
+use Rattle.octets.proofs.OrderLaws.{order_same, order_flip, greater_of}
 use Rattle.walk.proofs.Lists.{among_at, increasing_at, Inside, same_entries}
 use Rattle.walk.proofs.Stored.{split_stored, key_stored, after_stored, first_stored}
 
-abbrev none : Entry
+abbrev pub none : Entry
 none = record { key = []; value = [] }
 
 -- the record found, by a lookup's answer
@@ -105,7 +107,7 @@ module _ (es : List Entry) (fit : (e : Entry) → Among e es → Fit e) where
     at_found None a = absurd (true≢false (sym (a k l) ∙ not_above))
 
 -- the place of a member
-place : (es : List Entry) (x : Entry) → Among x es → (k : ℕ) × (k < length es) × (get_or es k none ≡ x)
+pub place : (es : List Entry) (x : Entry) → Among x es → (k : ℕ) × (k < length es) × (get_or es k none ≡ x)
 place [] x m = absurd (no_member m)
 place (e ∷ es) x (here p) = (0, omega arith, sym p)
 place (e ∷ es) x (later m) =
@@ -146,6 +148,33 @@ module _ (payload : List ℕ) (count : ℕ) (g : Read payload count) (small : le
 
   looked_member : (x : Entry) (s : List ℕ) → lookup_in payload count x.key s ≡ found x.key x.value → Among x entries
   looked_member x s e = found_among entries g.fit x.key (floor x.key (length s)) (answers x.key (length s)) x (sym (lookup_is x.key s) ∙ e)
+
+  -- entry k is the last whose key isn't above a sought one
+  abbrev LastAt : List ℕ → ℕ → Type 0
+  LastAt key k = (k < length entries) × (order (get_or entries k none).key key ≡ Greater → ⊥) × ((j : ℕ) → k < j → j < length entries → order (get_or entries j none).key key ≡ Greater)
+
+  -- every entry's key is above it
+  abbrev AllAbove : List ℕ → Type 0
+  AllAbove key = (j : ℕ) → j < length entries → order (get_or entries j none).key key ≡ Greater
+
+  above_at : (key : List ℕ) (j : ℕ) → j < length entries → key_above (end_to_end entries) key j ≡ is_greater (order (get_or entries j none).key key)
+  above_at key j l = ap (λ (x : List ℕ). is_greater (order x key)) (key_at_lem entries g.fit j l)
+
+  above_entry : (key : List ℕ) (j : ℕ) → j < length entries → key_above (end_to_end entries) key j ≡ true → order (get_or entries j none).key key ≡ Greater
+  above_entry key j l e = greater_of (order (get_or entries j none).key key) (sym (above_at key j l) ∙ e)
+
+  -- a lookup finds the one, or nothing where the other holds
+  pub looked_last : (key s : List ℕ)
+      → ((k : ℕ) × LastAt key k × (lookup_in payload count key s ≡ found (get_or entries k none).key (get_or entries k none).value)) ⊎ ((lookup_in payload count key s ≡ nothing) × AllAbove key)
+  looked_last key s = go (floor key (length s)) (answers key (length s)) (lookup_is key s)
+    where
+      go : (f : Option Floor) → IsFloor (end_to_end entries) (length entries) key f → lookup_in payload count key s ≡ result entries f
+          → ((k : ℕ) × LastAt key k × (lookup_in payload count key s ≡ found (get_or entries k none).key (get_or entries k none).value)) ⊎ ((lookup_in payload count key s ≡ nothing) × AllAbove key)
+      go (Some f) a e =
+          let p : is_greater (order (get_or entries f.index none).key key) ≡ false = sym (above_at key f.index a.0) ∙ a.2 in
+          inl
+          (f.index, (a.0, λ q. absurd (true≢false (sym (ap is_greater q) ∙ p)), λ j l m. above_entry key j m (a.3 j l m)), e ∙ result_at entries g.fit f.index f.offset a.0 a.1)
+      go None a e = inr (e, λ j l. above_entry key j l (a j l))
 
 -- ---- two payloads in which the lookups find the same, whatever byte string is sought, are the same; the scratch is chosen for each payload and each key
 abbrev SameFound : List ℕ → ℕ → (List ℕ → List ℕ) → List ℕ → ℕ → (List ℕ → List ℕ) → Type 0

@@ -2,7 +2,8 @@
 // Kept: `rest` with `left` or `payload_length`: `rest` is the block from byte 80 to its end, not the payload: a record's two lengths are read even where they lie behind the payload's end. Document 01, section 5.
 #![tactic(auto)]
 
-ghost use Rattle.std.specs.Prelude.{◌≡◌, false, ◌||◌, eqb, [], ◌≤◌, length, take};
+ghost use Rattle.std.specs.Prelude.{◌≡◌, false, ◌||◌, eqb, [], ◌≤◌, length};
+ghost use Rattle.error.specs.Answer.{number_words};
 ghost use Rattle.std.specs.List.{fold};
 ghost use Rattle.walk.specs.Records.{is_leaf, own_rules, is_one_of, walk, validate_records};
 ghost use Rattle.walk.specs.Inside.{form_of, join_of, turn_of, stored_blocks, blocks_of, Whole, Kept};
@@ -209,7 +210,8 @@ pub fn validate_records(
     count: usize,
     context: RecordValidation,
 ) -> Result<u64, Error>
-    ensures { result ≡ validate_records rest.now payload_length count context }
+    ensures answer { result ≡ validate_records rest.now payload_length count context }
+    ensures words { number_words result ≡ number_words (validate_records rest.now payload_length count context) }
 {
     let mode = context.mode;
     if payload_length / 4 < count {

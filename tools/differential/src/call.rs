@@ -131,6 +131,7 @@ pub const SHAPES: &[Shape] = &[
     shape(41, "select_root", ROOTS, ROOT_TEXTS),
     shape(42, "validate_records", &[Kind, Byte, Any, Any, Flag, Any, Any], ONE),
     shape(43, "hand_out", &[Any, Any, Kind, Any, Byte, Any, Entries], UUID_AND_TWO),
+    shape(44, "data unit in pieces", &[Any, Any, Any, Any], UUID_AND_ONE),
 ];
 
 pub fn shape_of(no: u8) -> Option<&'static Shape> {
@@ -218,9 +219,9 @@ mod tests {
             assert_eq!(usize::from(shape.no), place + 1);
             assert!(shape.numbers.len() <= 34 && shape.texts.len() <= 4);
         }
-        assert_eq!(SHAPES.len(), 43);
+        assert_eq!(SHAPES.len(), 44);
         assert_eq!(ROOTS.len(), 34);
-        assert!(shape_of(0).is_none() && shape_of(44).is_none());
+        assert!(shape_of(0).is_none() && shape_of(45).is_none());
     }
 
     #[test]

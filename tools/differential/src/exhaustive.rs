@@ -12,6 +12,7 @@ type Each<'a> = &'a mut dyn FnMut(Call);
 
 pub fn all(each: Each) {
     checksums(each);
+    pieces(each);
     utf8(each);
     labels_and_targets(each);
     readers(each);
@@ -26,6 +27,7 @@ pub fn all(each: Each) {
 /// A short list of the same kind, for the recorded answers.
 pub fn borders(each: Each) {
     few_texts(each);
+    few_pieces(each);
     let mut count = 0u64;
     let mut thinned = |call: Call| {
         count += 1;
@@ -76,6 +78,45 @@ fn checksums(each: Each) {
         let mut bytes = vec![0; 4_008];
         bytes[at] = 1;
         each(Call::new(1, &[0], &[&bytes]));
+    }
+}
+
+/// A unit of `len` bytes of which `announced` are announced, in pieces of `size`.
+fn in_pieces(len: usize, announced: u64, size: u64) -> Call {
+    let bytes: Vec<u8> = (0..len as u32).map(|at| (at.wrapping_mul(2_654_435_761) >> 24) as u8).collect();
+    Call::new(44, &[1, 2, announced, size], &[b"a volume's UUID.", &bytes])
+}
+
+/// All sizes of a piece for units of a few bytes, as many as announced, one fewer and one more; then lengths that no unit has, and whole units.
+fn pieces(each: Each) {
+    for len in 0..=24u64 {
+        for size in 0..=26 {
+            for announced in [len, len + 1, len.wrapping_sub(1)] {
+                each(in_pieces(len as usize, announced, size));
+            }
+        }
+    }
+    few_pieces(each);
+    for len in [65_535, 65_536, 65_537] {
+        for size in [0, 1, 4_008, 4_096, 65_535, 65_536, 65_537] {
+            for announced in [65_535, 65_536, 65_537] {
+                each(in_pieces(len, announced, size));
+            }
+        }
+    }
+}
+
+/// For the recorded answers: as long as announced, in one piece and in more; fewer and more bytes; and lengths that no unit has.
+fn few_pieces(each: Each) {
+    for size in [0, 1, 3, 5, 9, 10, 11, u64::MAX] {
+        each(in_pieces(10, 10, size));
+    }
+    for (len, announced) in [(9, 10), (11, 10), (0, 1), (1, 0), (0, 0)] {
+        each(in_pieces(len, announced, 0));
+        each(in_pieces(len, announced, 4));
+    }
+    for announced in [65_535, 65_536, 65_537, (1 << 32) + 10, u64::MAX] {
+        each(in_pieces(10, announced, 4));
     }
 }
 

@@ -16,7 +16,7 @@ const WEIGHTS: &[(u8, u64)] = &[
     (12, 4), (13, 4), (14, 4), (15, 4), (16, 3), (17, 5), (18, 5), (19, 4), (20, 4), (21, 3),
     (22, 5), (23, 10), (24, 8), (25, 10), (26, 8), (27, 20), (28, 14), (29, 8), (30, 6), (31, 4),
     (32, 2), (33, 5), (34, 8), (35, 4), (36, 24), (37, 5), (38, 3), (39, 16), (40, 6), (41, 5),
-    (42, 20), (43, 12),
+    (42, 20), (43, 12), (44, 4),
 ];
 
 pub fn any_call(r: &mut Random) -> Call {
@@ -81,6 +81,26 @@ fn ordered(r: &mut Random) -> Call {
     Call::new(11, &[], &[&first, &second])
 }
 
+/// Call 44: most units are as long as announced; the pieces are of any size, that of the whole among them.
+fn pieces(r: &mut Random) -> Call {
+    let valid = message(r);
+    let len = valid.len() as u64;
+    let announced = match r.below(10) {
+        0 => numbers::any(r),
+        1 => r.pick(&[0, 1, 65_535, 65_536, 65_537, 1 << 32, u64::MAX]),
+        2 => len + (1 << 32),
+        3 => near(r, valid.len()),
+        _ => len,
+    };
+    let size = match r.below(5) {
+        0 => 0,
+        1 => r.pick(&[1, 2, 7, 8, 9, 4_007, 4_008, 4_009, 65_535, 65_536, 65_537, u64::MAX]),
+        2 => near(r, valid.len()),
+        _ => r.from_to(1, len + 1),
+    };
+    Call::new(44, &[numbers::any(r), numbers::any(r), announced, size], &[&r.bytes(16), &valid])
+}
+
 fn bytes_call(r: &mut Random, no: u8) -> Call {
     match no {
         1 => Call::new(1, &[register(r)], &[&message(r)]),
@@ -102,6 +122,7 @@ fn bytes_call(r: &mut Random, no: u8) -> Call {
             let valid = message(r);
             Call::new(5, &[numbers::any(r), numbers::any(r)], &[&r.bytes(16), &valid])
         }
+        44 => pieces(r),
         6 => Call::new(6, &[], &[&texts::any(r)]),
         7 => {
             let mut bytes = vec![0; r.size(0, 70)];
@@ -343,7 +364,7 @@ fn page_call(r: &mut Random, no: u8) -> Call {
 
 pub fn call(r: &mut Random, no: u8) -> Call {
     match no {
-        1..=11 => bytes_call(r, no),
+        1..=11 | 44 => bytes_call(r, no),
         12..=21 => volume_call(r, no),
         22..=32 => record_call(r, no),
         33..=35 | 41 => root_call(r, no),

@@ -38,6 +38,16 @@ pub const LISTED: &[Listed] = &[
         applies: |call| !(1..=UNIT).contains(&call.texts[1].len()),
     },
     Listed {
+        name: "data unit in pieces",
+        call: 44,
+        rule: "an announced length of 0 or above 65,536, or another than the bytes have: class 2 and reason 0; the Rust's string is of crc.rs",
+        smallest: "call 44, object 0, unit 0, announced 0, size 0, any UUID, no bytes",
+        applies: |call| {
+            let announced = call.numbers[2];
+            !(1..=UNIT as u64).contains(&announced) || announced != call.texts[1].len() as u64
+        },
+    },
+    Listed {
         name: "short extent key",
         call: 25,
         rule: "a key under 17 bytes: \"invalid catalog key\" in the mode's class, before the value; the Rust panics",

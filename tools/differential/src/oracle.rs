@@ -176,6 +176,11 @@ fn listed_answer(call: &Lent, out: &mut Vec<u8>) -> Said {
             fields(out, &[2, 0, 0]);
             said(2, 0)
         }
+        44 => {
+            assert_eq!(in_pieces(call), Err(Error::InvalidInput("data unit valid length")));
+            fields(out, &[2, 0, 0]);
+            said(2, 0)
+        }
         25 | 26 => {
             let said = short_key(n[usize::from(call.no == 25)]);
             let (class, reason) = said.verdict.unwrap_or_default();
@@ -206,12 +211,23 @@ pub fn answer(call: &Lent, out: &mut Vec<u8>) -> Said {
 /// The reference's own answer; it may panic where a listed difference applies.
 pub fn reference_answer(call: &Lent, out: &mut Vec<u8>) -> Said {
     match call.no {
-        1..=11 => bytes_answer(call, out),
+        1..=11 | 44 => bytes_answer(call, out),
         12..=21 => volume_answer(call, out),
         22..=32 => record_answer(call, out),
         33..=35 | 41 => root_answer(call, out),
         _ => page_answer(call, out),
     }
+}
+
+/// The word of a unit whose bytes come in pieces, the last of which may be shorter; a size of 0: all at once.
+fn in_pieces(call: &Lent) -> Result<u32> {
+    let (n, t) = (&call.numbers, &call.texts);
+    let mut sum = crc::DataUnitCrc::new(&uuid(t[0]), n[0], n[1], n[2] as usize)?;
+    match n[3] as usize {
+        0 => sum.update(t[1]),
+        size => t[1].chunks(size).for_each(|piece| sum.update(piece)),
+    }
+    sum.finish()
 }
 
 fn bytes_answer(call: &Lent, out: &mut Vec<u8>) -> Said {
@@ -232,6 +248,7 @@ fn bytes_answer(call: &Lent, out: &mut Vec<u8>) -> Said {
         9 => given(out, format::read_u32_le(t[0], at, "").map(u64::from), n[1]),
         10 => given(out, format::read_u64_le(t[0], at, ""), n[1]),
         11 => plain(out, (t[0].cmp(t[1]) as i8 + 1) as u64),
+        44 => valued(out, in_pieces(call).map(u64::from)),
         no => panic!("call {no}"),
     }
 }

@@ -53,6 +53,11 @@ fn apart(call: &Call, said: Said, fields: &[u8]) -> u64 {
         40 => found << 4 | n(0).min(2),
         // The tree kind, walked or halved, found or not, at the front or behind it.
         43 if accepted => n(2) << 8 | told(5) << 4 | u64::from(n(6) >= told(4)) << 3 | told(6).min(1),
+        // At once, in one piece, or in more, the last of which is shorter or isn't.
+        44 if accepted => {
+            let len = call.texts[1].len() as u64;
+            len.checked_rem(n(3)).map_or(0, |last| 1 + 2 * u64::from(n(3) < len) + u64::from(last != 0))
+        }
         // A few of those that have neither class nor turn.
         1..=7 | 12..=15 | 31 | 32 => hash(fields) % 8,
         11 => hash(fields) % 64,

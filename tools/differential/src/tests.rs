@@ -112,6 +112,18 @@ fn record_cases_of_the_paper() {
 }
 
 #[test]
+fn pieces() {
+    let (id, bytes) = ([7; 16], b"twelve bytes");
+    let whole = fields(5, &[1, 2], &[&id, bytes]);
+    for size in 0..=13 {
+        assert_eq!(fields(44, &[1, 2, 12, size], &[&id, bytes]), whole);
+    }
+    for announced in [0, 11, 13, 65_536, 65_537, (1 << 32) + 12, u64::MAX] {
+        assert_eq!(fields(44, &[1, 2, announced, 5], &[&id, bytes]), "2 0 0");
+    }
+}
+
+#[test]
 fn groups() {
     let mut group = [0; 1056];
     assert_eq!(fields(31, &[], &[&group]), "32");
@@ -219,6 +231,7 @@ fn listed_differences_differ() {
     let smallest = [
         Call::new(3, &[0, 65_537], &[&[0; 65_537]]),
         Call::new(5, &[0, 0], &[&[0; 16], b""]),
+        Call::new(44, &[0, 0, 0, 0], &[&[0; 16], b""]),
         Call::new(25, &[0, 0], &[b"", b""]),
         Call::new(26, &[0], &[b"", b""]),
         Call::new(31, &[], &[b""]),
@@ -239,7 +252,7 @@ fn listed_differences_differ() {
         }));
         match call.no {
             // The class is the Rust's; its string has no number of its own.
-            5 => assert_eq!(rust.unwrap(), ours),
+            5 | 44 => assert_eq!(rust.unwrap(), ours),
             39 => assert_ne!(rust.unwrap(), ours),
             _ => assert!(rust.is_err()),
         }

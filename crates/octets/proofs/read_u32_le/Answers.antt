@@ -3,4 +3,6 @@ use Rattle.octets.proofs.Arrays.{number_read}
 use Rattle.octets.proofs.read_u32_le.Goals as goal
 
 pub returns : goal.returns
-returns c = number_read w32 _ c.args.offset c.args.reason c.read_array.ensures c.in_ok-read_array.was c.from_le_bytes.ensures
+returns c =
+    let answer = number_read w32 _ c.args.offset c.args.reason c.read_array.ensures c.in_ok-read_array.was c.from_le_bytes.ensures in
+    record { answer = answer; words = rw answer }

@@ -1,0 +1,13 @@
+pub mod Keys
+pub mod Times
+pub mod Targets
+pub mod Inodes
+pub mod Entries
+pub mod Catalog
+pub mod Workspace
+pub mod Allocation
+pub mod Cleanup
+pub mod Internal
+pub mod Leaf
+pub mod Record
+pub mod Mode
