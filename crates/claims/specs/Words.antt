@@ -4,7 +4,8 @@
 use Rattle.std.specs.Prelude.{ℕ, ◌≡◌, cond, leb, List, [], ◌∷◌, ◌++◌, length, ℤ, Option, Some}
 use Rattle.error.specs.declared.Validation.{Validation}
 use Rattle.error.specs.declared.Validation.TheVariants.{Input}
-use Rattle.error.specs.Answer.{flag, check_words, number_words}
+use Rattle.error.specs.declared.Error.{Error}
+use Rattle.error.specs.Answer.{Check, Number, class_of, reason_of, flag, check_words, number_words}
 use Rattle.error.specs.Demand.{first_failing}
 use Rattle.crc.specs.Crc.{crc32c}
 use Rattle.crc.specs.declared.DataUnitCrc.{DataUnitCrc}
@@ -14,7 +15,7 @@ use Rattle.volume.specs.declared.TreeKind.{TreeKind}
 use Rattle.volume.specs.References.{blocks_demands, validate_blocks, tree_ref_demands, validate_tree_ref, root_slot_demands, validate_root_slot, uuid_demands, validate_uuid}
 use Rattle.volume.specs.Groups.{groups_of, group_count_demands, allocation_group_count}
 use Rattle.group.specs.Group.{present, word, slot_demands, checksum_slot, group_demands, validate_checksum_group}
-use Rattle.group.specs.Slots.{slot_words}
+use Rattle.group.specs.Slots.{Slot, slot_words}
 use Rattle.catalog.specs.Keys.{key_kind, owner_demands, validate_owner_id, catalog_key_demands, validate_catalog_key}
 use Rattle.catalog.specs.Times.{timestamp_range_demands, validate_timestamp_range}
 use Rattle.catalog.specs.Inode.{symlink_target_demands, validate_symlink_target, inode_demands, validate_inode}
@@ -23,7 +24,7 @@ use Rattle.catalog.specs.Extent.{extent_count, extent_demands, validate_extent}
 use Rattle.record.specs.Allocation.{allocation_group_demands, validate_allocation_group}
 use Rattle.record.specs.Cleanup.{cleanup_demands, validate_cleanup_key_value}
 use Rattle.record.specs.Workspace.{workspace_key_demands, validate_workspace_key, workspace_run_demands, validate_workspace_run}
-use Rattle.record.specs.Internal.{child_ref, child_words, internal_demands, validate_internal_record}
+use Rattle.record.specs.Internal.{Child, child_ref, child_words, internal_demands, validate_internal_record}
 use Rattle.record.specs.Leaf.{leaf_demands, leaf_blocks, validate_leaf_record, record_size_demands, leaf_record_blocks}
 use Rattle.page.specs.Header.{level, count, payload_length, total, header_demands, validate_page_header}
 use Rattle.page.specs.Page.{page_demands, decode_page, page_words}
@@ -77,3 +78,12 @@ pub record FirstFailing : Type 0 where
   -- section 6: checksum groups; a slot's presence and its word, 0 if it isn't present
   pub group : (key value : List ℕ) (mode : Validation) → check_words (validate_checksum_group key value mode) ≡ first_failing (group_demands key value mode) []
   pub slot : (g : List ℕ) (s : ℕ) → slot_words (checksum_slot g s) ≡ first_failing (slot_demands g s) (flag (present g s) ∷ cond (present g s) (word g s) 0 ∷ [])
+
+-- 01, "Return classes": the words tell answers apart. Class and reason are of one refusal alone; so an answer's words are those of that answer alone
+pub record WordsTellApart : Type 0 where
+  pub refusals : (a b : Error) → class_of a ≡ class_of b → reason_of a ≡ reason_of b → a ≡ b
+  -- a check, one that gives a number, a slot of a group, and the page that a record names
+  pub checks : (a b : Check) → check_words a ≡ check_words b → a ≡ b
+  pub numbers : (a b : Number) → number_words a ≡ number_words b → a ≡ b
+  pub slots : (a b : Slot) → slot_words a ≡ slot_words b → a ≡ b
+  pub children : (a b : Child) → child_words a ≡ child_words b → a ≡ b

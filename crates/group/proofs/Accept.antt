@@ -78,7 +78,7 @@ plain key value d =
       last = n - 1;
       last_most = let m : n ≤ 256 = through_le (present value) 256 in omega (arith, m, some);
       last_present = through_true (present value) 256 (n - 1) before;
-      none_behind = λ s l m. through_above (present value) 256 s (omega (arith, l, some)) m;
+      none_behind = λ s l m. through_above (present value) 256 s (omega (arith, l, some)) (omega (arith, m));
       size = omega (arith, d.ends, some);
       holes = λ s l p. d.holes s (omega (arith, l, some)) p;
     }
@@ -86,7 +86,7 @@ plain key value d =
 through_is : (key value : List ℕ) (h : GroupHolds key value) → stored_slots value ≡ suc h.last
 unfolding stored_slots
 through_is key value h =
-    through_last (present value) h.last 256 (omega (arith, h.last_most)) h.last_present (λ s l m. h.none_behind s (omega (arith, l)) m)
+    through_last (present value) h.last 256 (omega (arith, h.last_most)) h.last_present (λ s l m. h.none_behind s (omega (arith, l)) (omega (arith, m)))
 
 defined : (key value : List ℕ) → GroupHolds key value → ByDefinition key value
 defined key value h =

@@ -66,7 +66,7 @@ module _ (g h : List ℕ) (ok : Good g) (ok' : Good h) (same : (s : ℕ) → s <
       go i l (no n) = word_bytes_same i (omega arith) l
 
 pub groups_agree : GroupsAgree
-groups_agree k g m k' h m' a a' = ((λ e s l. same_of g h e (λ x. x) s), (λ same. bytes_same g h (good k g m a) (good k' h m' a') same))
+groups_agree k g m k' h m' a a' = ((λ e s l. same_of g h e (λ x. x) s), (λ same. bytes_same g h (good k g m a) (good k' h m' a') (λ s l. same s (omega (arith, l)))))
 
 pub expanded_slots : ExpandedSlots
 expanded_slots k g m a = expanded_slot g (good k g m a)

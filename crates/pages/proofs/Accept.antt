@@ -1,4 +1,5 @@
 -- A page is accepted exactly when each of its rules holds.
+-- Kept, here and in Records: a rule is made of its test, and serves it, by `omega`, where the fact alone would do. A weaker rule is then refused at numbers that it lets through.
 use mathlib.Core.Path.{◌≡◌, refl, sym, ap, ◌∙◌, subst}
 use mathlib.Core.Bool.{Bool, true, false, not, ◌&&◌, ◌||◌}
 use mathlib.Core.Logic.{◌↔◌, ◌⊎◌, inl, inr}
@@ -32,22 +33,22 @@ use Rattle.page.specs.declared.Page.{Page}
 use Rattle.page.specs.Header.{magic, page_kind, tree_kind, level, self_block, generation, count, payload_length, total, is_level, caller_demands, check_caller, checksum_fits, format_demands, check_format, is_page_kind, is_tree_kind, level_fits, is_expected, reserved_zero, is_of_tree, kind_demands, check_kind, is_referred, has_uuid, total_allowed, identity_demands, check_identity, header_demands, validate_page_header}
 use Rattle.page.specs.Page.{context, validate_page_records, total_fits, padding_zero, enough_children, content_demands, check_content, page_demands, check_page, accepted_page, decode_page}
 use Rattle.pages.specs.Records.{LeafRecords}
-use Rattle.pages.specs.Accept.{CallerHolds, LevelHolds, KindByte, HeaderHolds, ContentHolds, PageHolds, PageStates, PageExactly, PageAcceptedExactly}
+use Rattle.pages.specs.Accept.{CallerHolds, LeafOrInternal, LevelHolds, KindByte, HeaderHolds, ContentHolds, PageHolds, PageStates, PageExactly, PageAcceptedExactly}
 use Rattle.pages.proofs.Records.{value_is, records_walked}
 
 -- ---- a tree's kind and its byte
 
 kind_byte : (k : TreeKind) (b : ℕ) → b ≡ tree_kind_value k → KindByte k b
-kind_byte TreeKind.Catalog b e = e
-kind_byte TreeKind.Allocation b e = e
-kind_byte TreeKind.Cleanup b e = e
-kind_byte TreeKind.Workspace b e = e
+kind_byte TreeKind.Catalog b e = omega (arith, e)
+kind_byte TreeKind.Allocation b e = omega (arith, e)
+kind_byte TreeKind.Cleanup b e = omega (arith, e)
+kind_byte TreeKind.Workspace b e = omega (arith, e)
 
 pub byte_kind : (k : TreeKind) (b : ℕ) → KindByte k b → b ≡ tree_kind_value k
-byte_kind TreeKind.Catalog b e = e
-byte_kind TreeKind.Allocation b e = e
-byte_kind TreeKind.Cleanup b e = e
-byte_kind TreeKind.Workspace b e = e
+byte_kind TreeKind.Catalog b e = omega (arith, e)
+byte_kind TreeKind.Allocation b e = omega (arith, e)
+byte_kind TreeKind.Cleanup b e = omega (arith, e)
+byte_kind TreeKind.Workspace b e = omega (arith, e)
 
 -- ---- tests that ask only under a condition
 
@@ -101,12 +102,13 @@ module _ (volume : VolumeExactly) (exact : RecordsExactly) (reference : TreeRef)
   unfolding check_caller
   caller_holds e =
       let h = all_hold (caller_demands reference uuid kind parent_generation expected_level blocks page) e in
+      let n : reference.generation ≤ parent_generation = leb-true reference.generation parent_generation (and_right (not (eqb parent_generation 0)) (leb reference.generation parent_generation) h.1.1.1.1.0) in
       record {
         size = eqb-true (length page) 4096 h.0;
         geometry = (volume.blocks blocks Input).0 (passed_is (validate_blocks blocks Input) h.1.0);
         place = (volume.page_ref reference kind blocks Input).0 (passed_is (validate_page_ref reference kind blocks Input) h.1.1.0);
         volume = (volume.uuid uuid Input).0 (passed_is (validate_uuid uuid Input) h.1.1.1.0);
-        not_newer = leb-true reference.generation parent_generation (and_right (not (eqb parent_generation 0)) (leb reference.generation parent_generation) h.1.1.1.1.0);
+        not_newer = omega (arith, n);
       }
 
   caller_passes : CallerHolds reference uuid kind parent_generation blocks page → LevelHolds expected_level page → check_caller reference uuid kind parent_generation expected_level blocks page ≡ Ok tt
@@ -121,7 +123,7 @@ module _ (volume : VolumeExactly) (exact : RecordsExactly) (reference : TreeRef)
             (
               passed_test (validate_uuid uuid Input) tt ((volume.uuid uuid Input).1 h.volume),
               (
-                and_both (not (eqb parent_generation 0)) (leb reference.generation parent_generation) (not_yes (eqb parent_generation 0) (ne_eqb parent_generation 0 given)) (le-leb reference.generation parent_generation h.not_newer),
+                and_both (not (eqb parent_generation 0)) (leb reference.generation parent_generation) (not_yes (eqb parent_generation 0) (ne_eqb parent_generation 0 given)) (le-leb reference.generation parent_generation (omega (arith, h.not_newer))),
                 (known expected_level page (few l.kind) l.expected, tt),
               ),
             ),
@@ -132,9 +134,9 @@ module _ (volume : VolumeExactly) (exact : RecordsExactly) (reference : TreeRef)
       given : parent_generation ≡ 0 → ⊥
       given z = omega (arith, h.place.generation, h.not_newer)
 
-      few : (byte_at page 12 ≡ 1) × (byte_at page 14 ≡ 0) ⊎ (byte_at page 12 ≡ 2) × (1 ≤ byte_at page 14) × (byte_at page 14 ≤ 7) → byte_at page 14 ≤ 7
+      few : LeafOrInternal page → byte_at page 14 ≤ 7
       few (inl p) = omega (arith, p.1)
-      few (inr p) = p.2
+      few (inr p) = omega (arith, p.2)
 
   level_holds : check_kind kind expected_level page ≡ Ok tt → LevelHolds expected_level page
   unfolding check_kind is_page_kind level_fits
@@ -149,16 +151,21 @@ module _ (volume : VolumeExactly) (exact : RecordsExactly) (reference : TreeRef)
       }
     where
       go : (page_kind page ≡ 1) ⊎ (page_kind page ≡ 2) → (not (eqb (page_kind page) 1) || eqb (level page) 0) ≡ true → (not (eqb (page_kind page) 2) || (leb 1 (level page) && leb (level page) 7)) ≡ true
-          → (byte_at page 12 ≡ 1) × (byte_at page 14 ≡ 0) ⊎ (byte_at page 12 ≡ 2) × (1 ≤ byte_at page 14) × (byte_at page 14 ≤ 7)
-      go (inl p) l i = inl (p, eqb-true (level page) 0 (asked (page_kind page) 1 (eqb (level page) 0) l p))
+          → LeafOrInternal page
+      go (inl p) l i =
+          let z : level page ≡ 0 = eqb-true (level page) 0 (asked (page_kind page) 1 (eqb (level page) 0) l p) in
+          inl (omega (arith, p), omega (arith, z))
       go (inr p) l i =
           let r = asked (page_kind page) 2 (leb 1 (level page) && leb (level page) 7) i p in
-          inr (p, leb-true 1 (level page) (and_left (leb 1 (level page)) (leb (level page) 7) r), leb-true (level page) 7 (and_right (leb 1 (level page)) (leb (level page) 7) r))
+          let a : 1 ≤ level page = leb-true 1 (level page) (and_left (leb 1 (level page)) (leb (level page) 7) r) in
+          let b : level page ≤ 7 = leb-true (level page) 7 (and_right (leb 1 (level page)) (leb (level page) 7) r) in
+          inr (omega (arith, p), omega (arith, a), omega (arith, b))
 
   header_holds : length page ≡ 4096 → check_format page ≡ Ok tt → check_kind kind expected_level page ≡ Ok tt → check_identity reference uuid kind parent_generation blocks page ≡ Ok tt → HeaderHolds reference uuid kind expected_level blocks page
   unfolding check_format check_kind check_identity checksum_fits reserved_zero is_of_tree is_referred has_uuid
   header_holds size fe ke ie =
       let f = all_hold (format_demands page) fe in
+      let no : u16_at page 10 ≡ 0 = eqb-true (u16_at page 10) 0 f.1.1.1.0 in
       let k = all_hold (kind_demands kind expected_level page) ke in
       let i = all_hold (identity_demands reference uuid kind parent_generation blocks page) ie in
       let z15 : Bool = eqb (byte_at page 15) 0 in
@@ -171,7 +178,7 @@ module _ (volume : VolumeExactly) (exact : RecordsExactly) (reference : TreeRef)
       record {
         magic_is = same_is (part page 0 8) magic f.1.0;
         revision = eqb-true (u16_at page 8) 1 f.1.1.0;
-        flags = eqb-true (u16_at page 10) 0 f.1.1.1.0;
+        flags = omega (arith, no);
         level = level_holds ke;
         tree_kind = kind_byte kind (tree_kind page) (eqb-true (tree_kind page) (tree_kind_value kind) k.1.1.0);
         zero_15 = eqb-true (byte_at page 15) 0 (and_left z15 (z36 && z68) z);
@@ -193,7 +200,7 @@ module _ (volume : VolumeExactly) (exact : RecordsExactly) (reference : TreeRef)
         eq-eqb (crc32c_with_zero page 64 68) (u32_at page 64) (sym h.checksum),
         (
           rw h.magic_is,
-          (eq-eqb (u16_at page 8) 1 h.revision, (eq-eqb (u16_at page 10) 0 h.flags, tt)),
+          (eq-eqb (u16_at page 8) 1 h.revision, (eq-eqb (u16_at page 10) 0 (omega (arith, h.flags)), tt)),
         ),
       )
 
@@ -217,14 +224,13 @@ module _ (volume : VolumeExactly) (exact : RecordsExactly) (reference : TreeRef)
         ),
       )
     where
-      kinds : (byte_at page 12 ≡ 1) × (byte_at page 14 ≡ 0) ⊎ (byte_at page 12 ≡ 2) × (1 ≤ byte_at page 14) × (byte_at page 14 ≤ 7) → (page_kind page ≡ 1) ⊎ (page_kind page ≡ 2)
-      kinds (inl p) = inl p.0
-      kinds (inr p) = inr p.0
+      kinds : LeafOrInternal page → (page_kind page ≡ 1) ⊎ (page_kind page ≡ 2)
+      kinds (inl p) = inl (omega (arith, p.0))
+      kinds (inr p) = inr (omega (arith, p.0))
 
-      levels : (byte_at page 12 ≡ 1) × (byte_at page 14 ≡ 0) ⊎ (byte_at page 12 ≡ 2) × (1 ≤ byte_at page 14) × (byte_at page 14 ≤ 7)
-          → ((not (eqb (page_kind page) 1) || eqb (level page) 0) && (not (eqb (page_kind page) 2) || (leb 1 (level page) && leb (level page) 7))) ≡ true
+      levels : LeafOrInternal page → ((not (eqb (page_kind page) 1) || eqb (level page) 0) && (not (eqb (page_kind page) 2) || (leb 1 (level page) && leb (level page) 7))) ≡ true
       levels (inl p) = rw (p.0, p.1)
-      levels (inr p) = rw (p.0, le-leb 1 (level page) p.1, le-leb (level page) 7 p.2)
+      levels (inr p) = rw (p.0, le-leb 1 (level page) (omega (arith, p.1)), le-leb (level page) 7 (omega (arith, p.2)))
 
       numbered : (k : TreeKind) → tree_kind page ≡ tree_kind_value k → (leb 1 (tree_kind page) && leb (tree_kind page) 4) ≡ true
       numbered TreeKind.Catalog e = rw e
@@ -261,7 +267,9 @@ module _ (volume : VolumeExactly) (exact : RecordsExactly) (reference : TreeRef)
       let h = (records_walked exact (drop 80 page) (payload_length page) (count page) (context kind blocks page) (number_of r) (bytes_drop page 80 bytes)).0 (value_is r (number_passed r c.0)) in
       record {
         leaf = λ p. subst (λ (n : ℕ). LeafRecords kind blocks (u64_at page 24) payload (u16_at page 32) n) (sym (eqb-true (total page) (number_of r) (asked (page_kind page) 1 (eqb (total page) (number_of r)) c.1.0 p))) (h.leaf p).0;
-        internal = λ p. ((h.internal (λ q. omega (arith, p, q))).0, leb-true 2 (count page) (asked (page_kind page) 2 (leb 2 (count page)) c.1.1.1.0 p));
+        internal = λ p.
+            let two : 2 ≤ count page = leb-true 2 (count page) (asked (page_kind page) 2 (leb 2 (count page)) c.1.1.1.0 p) in
+            ((h.internal (λ q. omega (arith, p, q))).0, omega (arith, two));
         padding = zeros_are (drop (80 + payload_length page) page) (4016 - payload_length page) (length-drop (80 + payload_length page) page ∙ omega (arith, size)) c.1.1.0;
       }
 
@@ -274,8 +282,7 @@ module _ (volume : VolumeExactly) (exact : RecordsExactly) (reference : TreeRef)
       inside : payload_length page ≤ length (drop 80 page)
       inside = omega (arith, header.payload_fits, caller.size, length-drop 80 page)
 
-      go : (byte_at page 12 ≡ 1) × (byte_at page 14 ≡ 0) ⊎ (byte_at page 12 ≡ 2) × (1 ≤ byte_at page 14) × (byte_at page 14 ≤ 7)
-          → (byte_at page 12 ≡ 1) × (validate_page_records kind blocks page ≡ Ok (u64_at page 56)) ⊎ (byte_at page 12 ≡ 2) × (validate_page_records kind blocks page ≡ Ok 0)
+      go : LeafOrInternal page → (byte_at page 12 ≡ 1) × (validate_page_records kind blocks page ≡ Ok (u64_at page 56)) ⊎ (byte_at page 12 ≡ 2) × (validate_page_records kind blocks page ≡ Ok 0)
       go (inl p) = inl (
         p.0,
         (records_walked exact (drop 80 page) (payload_length page) (count page) (context kind blocks page) (u64_at page 56) (bytes_drop page 80 bytes)).1
@@ -295,7 +302,7 @@ module _ (volume : VolumeExactly) (exact : RecordsExactly) (reference : TreeRef)
       zeros = ap all_zero h.padding ∙ zeros_zero (4016 - u16_at page 34)
 
       enough : (not (eqb (page_kind page) 2) || leb 2 (count page)) ≡ true
-      enough = unasked (page_kind page) 2 (leb 2 (count page)) (λ p. le-leb 2 (count page) (h.internal p).1)
+      enough = unasked (page_kind page) 2 (leb 2 (count page)) (λ p. le-leb 2 (count page) (omega (arith, (h.internal p).1)))
 
       go : (byte_at page 12 ≡ 1) × (validate_page_records kind blocks page ≡ Ok (u64_at page 56)) ⊎ (byte_at page 12 ≡ 2) × (validate_page_records kind blocks page ≡ Ok 0)
           → check_content kind blocks page ≡ Ok tt
@@ -333,7 +340,7 @@ module _ (volume : VolumeExactly) (exact : RecordsExactly) (reference : TreeRef)
                 passed_test (check_format page) tt (format_passes h.header),
                 (
                   passed_test (check_kind kind expected_level page) tt (kind_passes h.header),
-                  (passed_test (check_identity reference uuid kind parent_generation blocks page) tt (identity_passes h.caller.not_newer h.header), tt),
+                  (passed_test (check_identity reference uuid kind parent_generation blocks page) tt (identity_passes (omega (arith, h.caller.not_newer)) h.header), tt),
                 ),
               ),
             )),

@@ -48,7 +48,7 @@ module _ (reference : TreeRef) (uuid : List ℕ) (kind : TreeKind) (blocks : ℕ
     leaf = λ _. record {
       read = no_records (part page 80 (u16_at page 34)) (u16_at page 32) empty_payload h.count;
       hold = λ e m. absurd (no_member m);
-      total_is = h.total;
+      total_is = omega (arith, h.total);
     };
     internal = λ p. absurd (omega (arith, p, h.leaf));
     padding = ap (λ (n : ℕ). drop (80 + n) page) h.payload_length ∙ h.zeros ∙ sym (ap (λ (n : ℕ). replicate (4016 - n) 0) h.payload_length);

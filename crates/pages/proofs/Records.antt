@@ -5,6 +5,7 @@ use mathlib.Core.List.Memᴰ.{head as here, tail as later}
 use mathlib.Core.List.{List, [], ◌∷◌, map, sum, Nodup, Memᴰ as Among}
 use mathlib.Core.Path.{subst}
 use Prim.Native.Nat.{ℕ, ◌+◌}
+use native.Mathlib.Omega.{arith}
 use borrow.Author.Tests.{eqb-true, eqb-false}
 use lib.Dec.{eqb}
 use mathlib.Core.Logic.{◌↔◌}
@@ -56,6 +57,11 @@ module _ (exact : RecordsExactly) (c : RecordValidation) where
 
   -- ---- all of them
 
+  -- what is added up of the entries, by the rules and by the conditions
+  counted : (es : List Entry) → ((e : Entry) → Among e es → number_of (leaf_rules c e.key e.value) ≡ blocks_counted c.kind e.key e.value)
+      → sum ◌+◌ 0 (map (λ (e : Entry). number_of (leaf_rules c e.key e.value)) es) ≡ sum ◌+◌ 0 (map (λ (e : Entry). blocks_counted c.kind e.key e.value) es)
+  counted es h = ap (sum ◌+◌ 0) (same_numbers (λ e. number_of (leaf_rules c e.key e.value)) (λ e. blocks_counted c.kind e.key e.value) es h)
+
   module _ (rest : List ℕ) (payload_length count total : ℕ) where
     leaf_there : c.page_kind ≡ 1 → Walked true (leaf_rules c) rest payload_length count total → RecordsHold c rest payload_length count total
     leaf_there p w = record {
@@ -64,7 +70,7 @@ module _ (exact : RecordsExactly) (c : RecordValidation) where
         record {
           read = w.read;
           hold = λ e m. (leaf_holds e.key e.value (w.obey e m)).0;
-          total_is = w.leaf_total refl ∙ ap (sum ◌+◌ 0) (same_numbers (λ e. number_of (leaf_rules c e.key e.value)) (λ e. blocks_counted c.kind e.key e.value) w.read.entries (λ e m. (leaf_holds e.key e.value (w.obey e m)).1));
+          total_is = omega (arith, w.leaf_total refl, counted w.read.entries (λ e m. (leaf_holds e.key e.value (w.obey e m)).1));
         },
         w.leaf_small refl,
       );
@@ -78,7 +84,7 @@ module _ (exact : RecordsExactly) (c : RecordValidation) where
           inside = h.inside;
           read = l.0.read;
           obey = λ e m. ap number_check (holds_leaf e.key e.value (l.0.hold e m));
-          leaf_total = λ _. l.0.total_is ∙ ap (sum ◌+◌ 0) (same_numbers (λ e. blocks_counted c.kind e.key e.value) (λ e. number_of (leaf_rules c e.key e.value)) l.0.read.entries (λ e m. sym (ap number_of (holds_leaf e.key e.value (l.0.hold e m)))));
+          leaf_total = λ _. omega (arith, l.0.total_is, counted l.0.read.entries (λ e m. ap number_of (holds_leaf e.key e.value (l.0.hold e m))));
           leaf_small = λ _. l.1;
           internal_total = λ q. absurd (true≢false q);
           distinct = λ q. absurd (true≢false q);

@@ -19,9 +19,13 @@ pub record CallerHolds (reference : TreeRef) (uuid : List ℕ) (kind : TreeKind)
   pub volume : uuid ≡ replicate (length uuid) 0 → ⊥
   pub not_newer : reference.generation ≤ parent_generation
 
--- section 4: a leaf is of kind 1 and level 0, an internal page of kind 2 and a level from 1 to 7; the level is the expected one, if one is given
+-- section 4: a leaf is of kind 1 and level 0, an internal page of kind 2 and a level from 1 to 7
+abbrev pub LeafOrInternal : List ℕ → Type 0
+LeafOrInternal page = (byte_at page 12 ≡ 1) × (byte_at page 14 ≡ 0) ⊎ (byte_at page 12 ≡ 2) × (1 ≤ byte_at page 14) × (byte_at page 14 ≤ 7)
+
+-- section 4: it is one of these, and its level is the expected one, if one is given
 pub record LevelHolds (expected_level : Option ℕ) (page : List ℕ) : Type 0 where
-  pub kind : (byte_at page 12 ≡ 1) × (byte_at page 14 ≡ 0) ⊎ (byte_at page 12 ≡ 2) × (1 ≤ byte_at page 14) × (byte_at page 14 ≤ 7)
+  pub kind : LeafOrInternal page
   pub expected : (n : ℕ) → expected_level ≡ Some n → byte_at page 14 ≡ n
 
 -- section 4: tree kind 1 catalog, 2 allocation, 3 cleanup, 4 workspace

@@ -1,7 +1,7 @@
 -- Allocation groups are accepted exactly when the conditions of specs/Record hold.
 use mathlib.Core.Path.{◌≡◌, refl, sym, ap, ◌∙◌}
 use mathlib.Core.Bool.{Bool, true, false, cond}
-use mathlib.Core.Logic.{◌↔◌, ◌⊎◌, inl, inr}
+use mathlib.Core.Logic.{◌↔◌, ◌⊎◌, inl, inr, ⊎_elim}
 use mathlib.Core.List.{List, [], ◌∷◌}
 use Prim.Native.Nat.{ℕ, ◌+◌, ◌-◌, ◌*◌, ◌%◌, ◌^◌, ◌≤◌, ◌<◌, min, max}
 use native.Mathlib.Omega.{arith}
@@ -107,7 +107,7 @@ module _ (value : List ℕ) (g blocks : ℕ) (counts : blocks + 16383 < 2 ^ 64) 
       ((taken_exactly value (max (blocks - 512) (group_start g)) (group_end g)).1 high)
     where
       taken : (block : ℕ) → 16384 * g ≤ block → block < 16384 * (g + 1) → (block < 512) ⊎ (blocks ≤ block + 512) → block_taken value block ≡ true
-      taken block a b r = ap (bit_set value) (bit_is block a b) ∙ h block a b r
+      taken block a b r = ap (bit_set value) (bit_is block a b) ∙ h block a b (⊎_elim (λ x. inl (omega (arith, x))) (λ x. inr (omega (arith, x))) r)
 
       low : (block : ℕ) → group_start g ≤ block → block < min (group_end g) 512 → block_taken value block ≡ true
       low block a b = taken block (omega (arith, start_is)) (omega (arith, end_is)) (inl (omega arith))

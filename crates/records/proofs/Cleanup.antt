@@ -57,7 +57,7 @@ module _ (key value : List ℕ) (blocks page_generation : ℕ) (mode : Validatio
         key_size = eqb-true (length key) 17 (and_left _ _ h.0);
         value_size = eqb-true (length value) 8 (and_right _ _ h.0);
         generation_least = r.0;
-        not_newer = r.1;
+        not_newer = omega (arith, r.1);
         run = r.2;
         fits = omega arith;
         zero_4 = r.3;
@@ -69,7 +69,7 @@ module _ (key value : List ℕ) (blocks page_generation : ℕ) (mode : Validatio
       let f : sum_fits (big_at key 9) (u32_at value 0) ≡ true = le-leb (big_at key 9 + u32_at value 0) largest (omega (arith, h.fits)) in
       all_pass (retirement_demands key value blocks page_generation mode) (
         and_both _ _ (eq-eqb (length key) 17 h.key_size) (eq-eqb (length value) 8 h.value_size),
-        (f, (range_passes (big_at key 1) (big_at key 9) (u32_at value 0) (u32_at value 4) blocks page_generation h.generation_least h.not_newer h.run h.zero_4, tt)),
+        (f, (range_passes (big_at key 1) (big_at key 9) (u32_at value 0) (u32_at value 4) blocks page_generation h.generation_least (omega (arith, h.not_newer)) h.run h.zero_4, tt)),
       )
 
   pub retirement : (validate_retirement key value blocks page_generation mode ≡ Ok tt) ↔ RetirementHolds key value blocks page_generation
@@ -106,7 +106,7 @@ module _ (key value : List ℕ) (blocks page_generation : ℕ) (mode : Validatio
   unfolding validate_detached_tree
   detached_holds e =
       let h = all_hold (detached_tree_demands key value blocks page_generation mode) e in
-      let size : length value ≡ 32 = eqb-true (length value) 32 (and_right _ _ h.0) in
+      let size : length value ≡ 32 = eqb-true (length value) 32 (and_right (eqb (length key) 9) (eqb (length value) 32) h.0) in
       let k = kinds_hold value size h.1.1.1.0 in
       record {
         key_size = eqb-true (length key) 9 (and_left _ _ h.0);
@@ -114,7 +114,7 @@ module _ (key value : List ℕ) (blocks page_generation : ℕ) (mode : Validatio
         job = (owner_exactly (big_at key 1) mode).0 (passed_is (validate_owner_id (big_at key 1) mode) h.1.0);
         owner = (owner_exactly (u64_at value 0) mode).0 (passed_is (validate_owner_id (u64_at value 0) mode) h.1.1.0);
         low = k.0;
-        ordered = k.1;
+        ordered = omega (arith, k.1, k.2);
         high = k.2;
         zeros = k.3;
         tree = (tree_ref_exactly (ref_at value 16) blocks mode).0 (passed_is (validate_tree_ref (ref_at value 16) blocks mode) h.1.1.1.1.0);
@@ -131,7 +131,7 @@ module _ (key value : List ℕ) (blocks page_generation : ℕ) (mode : Validatio
           (
             passed_test (validate_owner_id (u64_at value 0) mode) tt ((owner_exactly (u64_at value 0) mode).1 h.owner),
             (
-              kinds_pass value h.low h.ordered h.high h.zeros,
+              kinds_pass value h.low (omega (arith, h.ordered)) h.high h.zeros,
               (
                 passed_test (validate_tree_ref (ref_at value 16) blocks mode) tt ((tree_ref_exactly (ref_at value 16) blocks mode).1 h.tree),
                 (le-leb (u64_at value 24) page_generation h.not_newer, tt),
@@ -151,9 +151,10 @@ module _ (key value : List ℕ) (mode : Validation) where
   unfolding validate_orphan_marker
   orphan_holds e =
       let h = all_hold (orphan_marker_demands key value mode) e in
+      let l : length value ≡ 0 = eqb-true (length value) 0 (and_right (eqb (length key) 9) (eqb (length value) 0) h.0) in
       record {
         key_size = eqb-true (length key) 9 (and_left _ _ h.0);
-        value_size = eqb-true (length value) 0 (and_right _ _ h.0);
+        value_size = omega (arith, l);
         object = (owner_exactly (big_at key 1) mode).0 (passed_is (validate_owner_id (big_at key 1) mode) h.1.0);
       }
 
@@ -161,7 +162,7 @@ module _ (key value : List ℕ) (mode : Validation) where
   unfolding validate_orphan_marker
   orphan_passes h =
       all_pass (orphan_marker_demands key value mode) (
-        and_both _ _ (eq-eqb (length key) 9 h.key_size) (eq-eqb (length value) 0 h.value_size),
+        and_both _ _ (eq-eqb (length key) 9 h.key_size) (eq-eqb (length value) 0 (omega (arith, h.value_size))),
         (passed_test (validate_owner_id (big_at key 1) mode) tt ((owner_exactly (big_at key 1) mode).1 h.object), tt),
       )
 

@@ -1,6 +1,6 @@
 -- An inode is accepted exactly when its conditions hold.
 use mathlib.Core.Path.{◌≡◌, refl, sym, ap, ◌∙◌}
-use mathlib.Core.Bool.{true, false, ◌&&◌, false≢true}
+use mathlib.Core.Bool.{Bool, true, false, ◌&&◌, false≢true}
 use mathlib.Core.Logic.{◌↔◌, ◌⊎◌, inl, inr, ⊎_elim}
 use mathlib.Core.List.{List}
 use Prim.Native.Nat.{ℕ, ◌+◌, ◌-◌, ◌^◌, ◌≤◌}
@@ -79,19 +79,22 @@ module _ (value : List ℕ) (mode : Validation) where
   file k t =
       let e = rw k at t.ends in
       let f = rw k at t.fields in
-      record { type = k; value_size = eqb-true (length value) 128 e; flags = plain_flags (byte_at value 0) (byte_at value 1) (rw k refl) t.flags; children_zero = eqb-true (u64_at value 32) 0 (and_left _ _ f) }
+      record { type = omega (arith, k); value_size = eqb-true (length value) 128 e; flags = plain_flags (byte_at value 0) (byte_at value 1) (rw k refl) t.flags; children_zero = eqb-true (u64_at value 32) 0 (and_left _ _ f) }
 
   directory : byte_at value 0 ≡ 2 → Typed value mode → DirectoryHolds value
   unfolding fields_of_type
   directory k t =
       let e = rw k at t.ends in
       let f = rw k at t.fields in
-      let z = and_left _ _ (and_left _ _ f) in
+      let size : Bool = eqb (u64_at value 16) 0 in
+      let allocated : Bool = eqb (u64_at value 24) 0 in
+      let z = and_left (size && allocated) true (and_left (size && allocated && true) true f) in
+      let s : u64_at value 16 ≡ 0 = eqb-true (u64_at value 16) 0 (and_left size allocated z) in
       record {
-        type = k;
+        type = omega (arith, k);
         value_size = eqb-true (length value) 128 e;
         flags = plain_flags (byte_at value 0) (byte_at value 1) (rw k refl) t.flags;
-        size_zero = eqb-true (u64_at value 16) 0 (and_left _ _ z);
+        size_zero = omega (arith, s);
         blocks_zero = eqb-true (u64_at value 24) 0 (and_right _ _ z);
       }
 
@@ -103,9 +106,9 @@ module _ (value : List ℕ) (mode : Validation) where
       let c = rw k at t.target in
       let z = and_left _ _ f in
       record {
-        type = k;
+        type = omega (arith, k);
         value_size = behind_128 (u64_at value 16) (length value) t.long (eqb-true (u64_at value 16) (length value - 128) (and_right _ _ f));
-        flags = link_flags (byte_at value 1) g;
+        flags = ⊎_elim (λ (a : byte_at value 1 ≤ 3). inl (omega (arith, a))) (λ (b : (6 ≤ byte_at value 1) × (byte_at value 1 ≤ 7)). inr (omega (arith, b.0), omega (arith, b.1))) (link_flags (byte_at value 1) g);
         blocks_zero = eqb-true (u64_at value 24) 0 (and_left _ _ z);
         children_zero = eqb-true (u64_at value 32) 0 (and_right _ _ z);
         target = (target_exactly (drop 128 value) mode).0 c;
@@ -121,33 +124,41 @@ module _ (value : List ℕ) (mode : Validation) where
 
   typed : FileHolds value ⊎ (DirectoryHolds value ⊎ SymlinkHolds value) → Typed value mode
   unfolding fields_of_type target_check
-  typed (inl h) = record {
-    long = omega (arith, h.value_size);
-    low = omega (arith, h.type);
-    high = omega (arith, h.type);
-    ends = or_second _ _ (eq-eqb (length value) 128 h.value_size);
-    flags = flags_plain (byte_at value 0) (byte_at value 1) h.flags;
-    fields = rw (h.type, h.children_zero) refl;
-    target = rw h.type refl;
-  }
-  typed (inr (inl h)) = record {
-    long = omega (arith, h.value_size);
-    low = omega (arith, h.type);
-    high = omega (arith, h.type);
-    ends = or_second _ _ (eq-eqb (length value) 128 h.value_size);
-    flags = flags_plain (byte_at value 0) (byte_at value 1) h.flags;
-    fields = rw (h.type, h.size_zero, h.blocks_zero) refl;
-    target = rw h.type refl;
-  }
-  typed (inr (inr h)) = record {
-    long = omega (arith, h.value_size);
-    low = omega (arith, h.type);
-    high = omega (arith, h.type);
-    ends = or_first _ _ (eq-eqb (byte_at value 0) 3 h.type);
-    flags = rw h.type (flags_link (byte_at value 1) h.flags);
-    fields = rw (h.type, h.blocks_zero, h.children_zero) (eq-eqb (u64_at value 16) (length value - 128) (omega (arith, h.value_size)));
-    target = rw h.type ((target_exactly (drop 128 value) mode).1 h.target);
-  }
+  typed (inl h) =
+      let k : byte_at value 0 ≡ 1 = omega (arith, h.type) in
+      record {
+        long = omega (arith, h.value_size);
+        low = omega (arith, k);
+        high = omega (arith, k);
+        ends = or_second _ _ (eq-eqb (length value) 128 h.value_size);
+        flags = flags_plain (byte_at value 0) (byte_at value 1) h.flags;
+        fields = rw (k, h.children_zero) refl;
+        target = rw k refl;
+      }
+  typed (inr (inl h)) =
+      let k : byte_at value 0 ≡ 2 = omega (arith, h.type) in
+      let s : u64_at value 16 ≡ 0 = omega (arith, h.size_zero) in
+      record {
+        long = omega (arith, h.value_size);
+        low = omega (arith, k);
+        high = omega (arith, k);
+        ends = or_second _ _ (eq-eqb (length value) 128 h.value_size);
+        flags = flags_plain (byte_at value 0) (byte_at value 1) h.flags;
+        fields = rw (k, s, h.blocks_zero) refl;
+        target = rw k refl;
+      }
+  typed (inr (inr h)) =
+      let k : byte_at value 0 ≡ 3 = omega (arith, h.type) in
+      let f : (byte_at value 1 ≤ 3) ⊎ (6 ≤ byte_at value 1) × (byte_at value 1 ≤ 7) = ⊎_elim (λ a. inl (omega (arith, a))) (λ b. inr (omega (arith, b.0), omega (arith, b.1))) h.flags in
+      record {
+        long = omega (arith, h.value_size);
+        low = omega (arith, k);
+        high = omega (arith, k);
+        ends = or_first _ _ (eq-eqb (byte_at value 0) 3 k);
+        flags = rw k (flags_link (byte_at value 1) f);
+        fields = rw (k, h.blocks_zero, h.children_zero) (eq-eqb (u64_at value 16) (length value - 128) (omega (arith, h.value_size)));
+        target = rw k ((target_exactly (drop 128 value) mode).1 h.target);
+      }
 
 -- ---- inodes
 

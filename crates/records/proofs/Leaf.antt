@@ -53,7 +53,9 @@ module _ (key value : List ℕ) (blocks : ℕ) (mode : Validation) where
   uncounted_by : (one two four : Bool) → kind_is 1 ≡ one → kind_is 2 ≡ two → kind_is 4 ≡ four → uncounted one two four ≡ Ok tt → CatalogHolds key value blocks
   uncounted_by true two four p q r e = CatalogHolds.inode (eqb-true (byte_at key 8) 1 p) ((inode_exactly value blocks mode).0 e)
   uncounted_by false true four p q r e = CatalogHolds.entry (eqb-true (byte_at key 8) 2 q) ((entry_exactly value mode).0 e)
-  uncounted_by false false true p q r e = CatalogHolds.group (eqb-true (byte_at key 8) 4 r) ((group_exactly key value mode).0 e)
+  uncounted_by false false true p q r e =
+      let k : byte_at key 8 ≡ 4 = eqb-true (byte_at key 8) 4 r in
+      CatalogHolds.group (omega (arith, k)) ((group_exactly key value mode).0 e)
   uncounted_by false false false p q r e = let z : ◌≡◌ {A = ℕ} 0 1 = cc in absurd (omega arith)
 
   counted_by : (three : Bool) → kind_is 3 ≡ three → cond three (number_check (validate_extent key value blocks mode)) (uncounted_record key value blocks mode) ≡ Ok tt → CatalogHolds key value blocks
@@ -73,7 +75,9 @@ record_passes {key} {value} {blocks} mode (CatalogHolds.entry p h) = rw p ((entr
 record_passes {key} {value} {blocks} mode (CatalogHolds.extent p h) =
     let e : validate_extent key value blocks mode ≡ Ok _ = (extent_exactly key value blocks mode _).1 (h, refl) in
     rw p (rw e)
-record_passes {key} {value} {blocks} mode (CatalogHolds.group p h) = rw p ((group_exactly key value mode).1 h)
+record_passes {key} {value} {blocks} mode (CatalogHolds.group p h) =
+    let k : byte_at key 8 ≡ 4 = omega (arith, p) in
+    rw k ((group_exactly key value mode).1 h)
 
 -- ---- a leaf record
 

@@ -39,14 +39,14 @@ module _ (target : List ℕ) (mode : Validation) where
       record {
         length_least = some_is (length target) (and_left _ _ t);
         length_most = leb-true (length target) 1023 h.0;
-        no_nul = λ m. false≢true (sym (not-true (list_any nul target) (and_right _ _ t)) ∙ among_nul m);
+        no_nul = λ m. absurd (false≢true (sym (not-true (list_any nul target) (and_right _ _ t)) ∙ among_nul m));
         text = (utf8_is_grammar target).0 (and_right _ _ h.1.0);
       }
 
   passes : TargetHolds target → validate_symlink_target target mode ≡ Ok tt
   unfolding validate_symlink_target is_target
   passes h =
-      let no = never_holds (list_any nul target) (λ e. h.no_nul (nul_among target e)) in
+      let no = never_holds (list_any nul target) (λ e. search (h.no_nul, nul_among target e)) in
       let t = and_both _ _ (and_both _ _ (is_some (length target) h.length_least) no) ((utf8_is_grammar target).1 h.text) in
       all_pass (symlink_target_demands target mode) (le-leb (length target) 1023 h.length_most, (t, tt))
 

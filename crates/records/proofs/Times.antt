@@ -1,7 +1,7 @@
 -- Times are accepted exactly when their conditions hold; a stored one's seconds are a word in two's complement.
 use mathlib.Core.Path.{◌≡◌, refl, sym, subst}
 use mathlib.Core.Bool.{Bool, true, false}
-use mathlib.Core.Logic.{◌↔◌, ◌⊎◌, inl, inr}
+use mathlib.Core.Logic.{◌↔◌, ◌⊎◌, inl, inr, ⊎_elim}
 use mathlib.Core.List.{List}
 use Prim.Native.Nat.{ℕ, suc, ◌+◌, ◌-◌, ◌^◌, ◌≤◌, ◌<◌}
 use native.Mathlib.Decide.{dec_lt}
@@ -90,12 +90,13 @@ module _ (value : List ℕ) (offset : ℕ) (mode : Validation) where
       let h = all_hold (timestamp_demands value offset mode) e in
       let t = (range_exactly (seconds_at value offset) (nanos_at value offset) mode).0 (passed_is (validate_timestamp_range (seconds_at value offset) (nanos_at value offset) mode) h.0) in
       let w = forth word (read word) t.from t.until in
-      record { seconds = w; nanos_most = t.nanos_most; zero_12 = eqb-true (u32_at value (offset + 12)) 0 h.1.0 }
+      record { seconds = ⊎_elim (λ (a : word ≤ 253402300799). inl (omega (arith, a))) (λ (b : (2 ^ 64 ≤ word + 11644473600) × (word ≤ 2 ^ 64 + 253402300799)). inr (omega (arith, b.0), omega (arith, b.1))) w; nanos_most = t.nanos_most; zero_12 = eqb-true (u32_at value (offset + 12)) 0 h.1.0 }
 
   holds_stored : StoredTimeHolds value offset → validate_timestamp value offset mode ≡ Ok tt
   unfolding validate_timestamp
   holds_stored h =
-      let w = back word (read word) h.seconds in
+      let s : (word ≤ 253402300799) ⊎ (2 ^ 64 ≤ word + 11644473600) × (word ≤ 2 ^ 64 + 253402300799) = ⊎_elim (λ a. inl (omega (arith, a))) (λ b. inr (omega (arith, b.0), omega (arith, b.1))) h.seconds in
+      let w = back word (read word) s in
       let t = (range_exactly (seconds_at value offset) (nanos_at value offset) mode).1 (record { from = w.0; until = w.1; nanos_most = h.nanos_most }) in
       all_pass (timestamp_demands value offset mode) (passed_test _ tt t, (eq-eqb (u32_at value (offset + 12)) 0 h.zero_12, tt))
 

@@ -11,7 +11,7 @@ use lib.Seq.{take_all, take_at}
 use Rattle.std.specs.Prelude.{Option, Some, None}
 use Rattle.octets.proofs.Parts.{grow}
 use Rattle.octets.specs.Bytes.{part, Bytes}
-use Rattle.octets.specs.Number.{field}
+use Rattle.octets.specs.Number.{field, u64_at}
 use Rattle.octets.proofs.Join.{part_length}
 use Rattle.octets.proofs.Digits.{field_same}
 use Rattle.crc.specs.Crc.{crc32c, zeroed, crc32c_with_zero}
@@ -123,7 +123,8 @@ module _ (slot b c : ℕ) (s t : List ℕ) (bs : Bytes s) (bt : Bytes t) (g : Ro
         let s152 = grow s t 144 8 s144 (same 144 8 (omega arith) (g.reserve ∙ sym h.reserve)) in
         let s160 = grow s t 152 8 s152 (same 152 8 (omega arith) a.next_job) in
         let s176 = ref_same 160 (omega arith) a.workspace s160 in
-        let s184 = grow s t 176 8 s176 (same 176 8 (omega arith) a.workspace_cursor) in
+        let cursor : u64_at s 176 ≡ u64_at t 176 = omega (arith, a.workspace_cursor) in
+        let s184 = grow s t 176 8 s176 (same 176 8 (omega arith) cursor) in
         grow s t 184 2 s184 (same 184 2 (omega arith) (label_same a.label).0)
 
     -- 186 to 4092: the label's text, and zeros after it

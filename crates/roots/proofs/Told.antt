@@ -30,6 +30,7 @@ label_stands s l few false e =
     let long : length t ≡ n = part_length s 186 n (omega arith) in
     (some_is n e, long, ap (λ (x : List ℕ). x ++ replicate (255 - length t) 0) (take_all 255 t (omega arith)) ∙ ap (λ (k : ℕ). t ++ replicate (255 - k) 0) long)
 
+-- Kept: references by `omega`, where `refl` would do: one that stands elsewhere is then refused at numbers.
 of_block : (s : List ℕ) → length s ≡ 4096 → u16_at s 184 ≤ 255 → RootStates s (root_of s)
 unfolding root_of
 of_block s l few = record {
@@ -37,13 +38,13 @@ of_block s l few = record {
   uuid = refl;
   generation = refl;
   blocks = refl;
-  catalog = record { block = refl; generation = refl };
-  allocation = record { block = refl; generation = refl };
-  cleanup = record { block = refl; generation = refl };
+  catalog = record { block = omega arith; generation = omega arith };
+  allocation = record { block = omega arith; generation = omega arith };
+  cleanup = record { block = omega arith; generation = omega arith };
   next_object = refl;
   free_blocks = refl;
   next_job = refl;
-  workspace = record { block = refl; generation = refl };
+  workspace = record { block = omega arith; generation = omega arith };
   workspace_cursor = refl;
 }
 
