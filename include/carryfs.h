@@ -4,18 +4,21 @@
  *
  * Each function reads what it is lent and answers; it allocates nothing and keeps nothing, and may be called from any thread.
  * A part of memory is a pointer and a number of elements, all of them there while the call runs. No pointer may be NULL, also
- * where the number is 0, and each is aligned as its type asks. What is written (out, text, scratch) may not overlap anything else
- * that the call is lent; what is only read may. Nobody else may write what is lent, nor read what is written, during the call.
+ * where the number is 0, and each is aligned as its type asks. What is written (out, scratch, and the text of carryfs_root) may not
+ * overlap anything else that the call is lent; what is only read may. Nobody else may write what is lent, nor read what is written,
+ * during the call.
  *
  * But for carryfs_crc32c and carryfs_extend, the answer of a call is words at the front of `out`; elements beyond them are left as
  * they were. The result is a status:
  *   CARRYFS_DONE       the answer is in `out`
- *   CARRYFS_NO_ROOM    `out` (or `text`) is shorter than the answer; nothing was written, the scratch neither
- *   CARRYFS_NOT_ASKED  carryfs_page and carryfs_data_unit: an argument means nothing; nothing was written. It comes before NO_ROOM
+ *   CARRYFS_NO_ROOM    `out` (or the text of carryfs_root) is shorter than the answer; nothing was written, the scratch neither
+ *   CARRYFS_NOT_ASKED  carryfs_page, carryfs_search and carryfs_data_unit: an argument means nothing; nothing was written. It
+ *                      comes before NO_ROOM
  *
  * Class and reason say why something is refused. Class 0 is accepted, with reason 0. A refusal is class 1 (geometry), 2 (the
- * caller's arguments), 3 (corrupt) or 4 (unsupported); no call here answers another, and each says below which it answers.
- * docs/REASONS.md has the reasons; classes 1 and 4 have reason 0. Beside a refusal every other word, and `text`, is 0.
+ * caller's arguments), 3 (corrupt) or 4 (unsupported), and of carryfs_search also 7 (a block beyond the image) or 8 (a key out of
+ * its bounds); each call says below which it answers. docs/REASONS.md has the reasons; classes 1, 4, 7 and 8 have reason 0. Beside
+ * a refusal every other word, and `text`, is 0, but for the count of carryfs_search.
  */
 #ifndef CARRYFS_H
 #define CARRYFS_H
@@ -106,9 +109,9 @@ uint32_t carryfs_select(const uint8_t *first, size_t first_length, uint64_t firs
  * volume of `blocks` blocks. Class 0, 2 (what the caller says of the page can't be), 3 or 4. A UUID that isn't 16 bytes, a kind
  * outside 1 to 4 or a level above 255 is CARRYFS_NOT_ASKED; an expected level from 8 to 254 is refused.
  * For the root page of a tree, block and generation are those of the tree in carryfs_root's words, the UUID is in its `text`, the
- * parent is the root's generation, and the level CARRYFS_ANY_LEVEL. In a page of a level above 0 the value of each record is 16
- * bytes, a child's block and generation, each little-endian. The child is of the same kind, its parent is this page's generation,
- * and its level is one less. Levels are 7 to 0, so there are at most eight pages on a way down. */
+ * parent is the root's generation, and the level CARRYFS_ANY_LEVEL. In an internal page, of a level above 0, the value of each
+ * record is 16 bytes, a child's block and generation, each little-endian. The child is of the same kind, its parent is this page's
+ * generation, and its level is one less. Levels are 7 to 0, so there are at most eight pages on a way down. */
 #define CARRYFS_CATALOG 1u
 #define CARRYFS_ALLOCATION 2u
 #define CARRYFS_CLEANUP 3u
@@ -150,6 +153,33 @@ uint32_t carryfs_lookup(const uint8_t *payload, size_t payload_length, size_t co
 #define CARRYFS_NEXT_REMAINING 4
 #define CARRYFS_NEXT_WORDS 5
 uint32_t carryfs_next(const uint8_t *part, size_t length, size_t remaining, uint64_t *out, size_t out_length);
+
+/* The record of a key in one of a root's four trees, from the tree's root page down to the leaf. `image` is the volume, from its
+ * first block on. `root` and `text` are what carryfs_root wrote, CARRYFS_ROOT_WORDS words and CARRYFS_TEXT_BYTES bytes, or a root
+ * made by hand in the same places; its words CLASS and REASON are not looked at, and of the others only the tree's reference,
+ * GENERATION and BLOCKS bear on the answer, and of the text the UUID. `kind` is the tree, CARRYFS_CATALOG to CARRYFS_WORKSPACE; the
+ * key is any bytes. Another length of `root` or `text`, or another kind, is CARRYFS_NOT_ASKED.
+ * Each page on the way is read as carryfs_page reads it, and its keys are held to their bounds: below a record of a page of a level
+ * above 0 every key is at least that record's key, and below the next one's, where there is one; and so are the keys of all pages
+ * further down. A page above the leaf is left by the record that carryfs_lookup finds; where its first key is above the sought one
+ * there is none.
+ * Class 0, found or not; 7 where a page's block ends beyond the image, tested before the page is read; 2, 3 or 4 where carryfs_page
+ * refuses a page; 8 where an accepted page has a key out of its bounds. Where none is found, and beside a refusal, the four places
+ * are 0.
+ * COUNT is `count`, the pages accepted before, and one more for each that this search accepted, the one of class 8 too; it stays at
+ * UINT64_MAX. It stands beside a refusal also: lend it to the next search. */
+#define CARRYFS_SEARCH_CLASS 0
+#define CARRYFS_SEARCH_REASON 1
+#define CARRYFS_SEARCH_FOUND 2 /* 1 where there is a record of that very key */
+#define CARRYFS_SEARCH_KEY 3   /* where it starts in the image */
+#define CARRYFS_SEARCH_KEY_LENGTH 4
+#define CARRYFS_SEARCH_VALUE 5
+#define CARRYFS_SEARCH_VALUE_LENGTH 6
+#define CARRYFS_SEARCH_COUNT 7
+#define CARRYFS_SEARCH_WORDS 8
+uint32_t carryfs_search(const uint8_t *image, size_t image_length, const uint64_t *root, size_t root_length, const uint8_t *text,
+                        size_t text_length, uint32_t kind, const uint8_t *key, size_t key_length, uint64_t count, uint64_t *out,
+                        size_t out_length);
 
 #ifdef __cplusplus
 }

@@ -1,20 +1,29 @@
 /*
- * Reads the blocks of a file, or a volume from its roots down through its catalog, and prints what it finds.
+ * Reads the blocks of a file, or a volume from its roots down through its catalog, or seeks a record in a volume, and prints what
+ * it finds.
  *
  *   example FILE [DATA]            FILE in the form of README.md: a byte of kind, the numbers that the block is read with, the
  *                                  block. Of its first two roots one is chosen
  *   example --image FILE [DATA]    FILE is a whole volume, from its first block to its last
+ *   example --search FILE TREE KEY [BLOCKS]
+ *                                  the record of a key in a tree of the volume's chosen root. TREE is 1 for the catalog, 2 for
+ *                                  allocation, 3 for cleanup, 4 for the workspace; KEY is in hexadecimal; BLOCKS is how many
+ *                                  blocks the volume has, where FILE is cut short
  *
  * DATA: the first unit of a file of the volume, at most 65,536 bytes, held to the stored checksums.
  *
  * Exit status 0 if the file was read to its end and a root was chosen, of a volume if every page of the chosen root's catalog was
- * accepted; 1 if not, or if standard output can't be written; 2 if there is nothing to read.
+ * accepted, of a search if the record is there; 1 if not, or if standard output can't be written; 2 if there is nothing to read.
  */
+#define _POSIX_C_SOURCE 200809L
 #include <errno.h>
 #include <inttypes.h>
+#include <limits.h>
 #include <stdio.h>
 #include <stdlib.h>
 #include <string.h>
+#include <sys/mman.h>
+#include <sys/stat.h>
 
 #include "carryfs.h"
 
@@ -28,6 +37,7 @@
 #define FIRST_SLOT 256    /* the block of the first root */
 #define SLOT_FROM_END 257 /* that of the second, from the volume's end */
 #define LEVELS 8          /* of a tree: 7 to 0 */
+#define SHOWN 64          /* bytes of a value at most */
 
 /* A root block, and the numbers that it is read with. */
 struct root {
@@ -68,6 +78,14 @@ struct image {
     uint8_t way[LEVELS][BLOCK]; /* the pages from the tree's root down to the one that is read */
 };
 
+/* A tree's number and a key; how many blocks the volume has, or 0 where its image says so. */
+struct sought {
+    uint32_t kind;
+    const uint8_t *key;
+    size_t length;
+    uint64_t blocks;
+};
+
 /* The data to check, if any. */
 static uint8_t data[UNIT + 1];
 static size_t data_length;
@@ -104,10 +122,11 @@ static void must(uint32_t status, const char *call)
 /* Class and reason are the first two words of every answer that can be a refusal. */
 static int refused(const uint64_t *out)
 {
-    static const char *const names[] = {"accepted", "geometry", "input", "corrupt", "unsupported"};
+    static const char *const names[] = {"accepted", "geometry", "input", "corrupt", "unsupported",
+                                        "?", "?", "a block beyond the image", "a key out of its bounds"};
     if (out[0] == 0)
         return 0;
-    printf("refused: %s, reason %" PRIu64 "\n", out[0] < 5 ? names[out[0]] : "?", out[1]);
+    printf("refused: %s, reason %" PRIu64 "\n", out[0] <= 8 ? names[out[0]] : "?", out[1]);
     return 1;
 }
 
@@ -421,27 +440,85 @@ static void read_slot(const struct image *image, uint64_t slot, struct root *roo
     read_root(root);
 }
 
-/* The two roots of a volume, the choice, and the chosen one's catalog. */
-static int read_image(FILE *file)
+/* The two roots of an image, and the choice: what carryfs_root answers of the chosen one. 0 where there is none. */
+static int image_root(const struct image *image, uint64_t out[CARRYFS_ROOT_WORDS], uint8_t text[CARRYFS_TEXT_BYTES])
 {
-    static struct image image;
     static struct root roots[2];
-    uint64_t out[CARRYFS_ROOT_WORDS];
-    uint8_t text[CARRYFS_TEXT_BYTES];
     uint64_t which;
-    image.file = file;
-    image.blocks = count_blocks(file);
-    if (image.blocks == 0)
-        return 0;
-    read_slot(&image, FIRST_SLOT, &roots[0]);
-    read_slot(&image, image.blocks - SLOT_FROM_END, &roots[1]);
+    read_slot(image, FIRST_SLOT, &roots[0]);
+    read_slot(image, image->blocks - SLOT_FROM_END, &roots[1]);
     which = choose(&roots[0], &roots[1]);
     if (which == 0)
         return 0;
     root_fields(&roots[which - 1], out, text);
+    return 1;
+}
+
+/* The chosen root of a volume, and its catalog. */
+static int read_image(FILE *file)
+{
+    static struct image image;
+    uint64_t out[CARRYFS_ROOT_WORDS];
+    uint8_t text[CARRYFS_TEXT_BYTES];
+    image.file = file;
+    image.blocks = count_blocks(file);
+    if (image.blocks == 0 || !image_root(&image, out, text))
+        return 0;
     memcpy(image.uuid, text + CARRYFS_TEXT_UUID, UUID);
     return walk(&image, out[CARRYFS_ROOT_CATALOG], out[CARRYFS_ROOT_CATALOG + 1], out[CARRYFS_ROOT_GENERATION],
                 CARRYFS_ANY_LEVEL);
+}
+
+/* Seeks a record in a mapped image, below the root of which these are the words and the text. */
+static int search(const uint8_t *bytes, size_t length, const uint64_t *root, const uint8_t *text, const struct sought *sought)
+{
+    uint64_t out[CARRYFS_SEARCH_WORDS];
+    uint64_t count = 0; /* of the pages accepted in earlier searches: this is the first */
+    uint32_t status = carryfs_search(bytes, length, root, CARRYFS_ROOT_WORDS, text, CARRYFS_TEXT_BYTES, sought->kind, sought->key,
+                                     sought->length, count, out, CARRYFS_SEARCH_WORDS);
+    printf("search in tree %" PRIu32 " for ", sought->kind);
+    print_hex(sought->key, sought->length);
+    printf(": ");
+    if (status == CARRYFS_NOT_ASKED) {
+        printf("there is no such tree\n");
+        return 0;
+    }
+    must(status, "carryfs_search");
+    if (!refused(out))
+        printf("%s\n", out[CARRYFS_SEARCH_FOUND] ? "found" : "none");
+    count = out[CARRYFS_SEARCH_COUNT];
+    printf("  pages accepted: %" PRIu64 "\n", count);
+    if (!out[CARRYFS_SEARCH_FOUND])
+        return 0;
+    printf("  the key at byte %" PRIu64 ", a value of %" PRIu64 " bytes at byte %" PRIu64 ": ", out[CARRYFS_SEARCH_KEY],
+           out[CARRYFS_SEARCH_VALUE_LENGTH], out[CARRYFS_SEARCH_VALUE]);
+    print_hex(bytes + out[CARRYFS_SEARCH_VALUE],
+              out[CARRYFS_SEARCH_VALUE_LENGTH] < SHOWN ? out[CARRYFS_SEARCH_VALUE_LENGTH] : SHOWN);
+    printf("%s\n", out[CARRYFS_SEARCH_VALUE_LENGTH] > SHOWN ? " .." : "");
+    return 1;
+}
+
+/* The chosen root of a volume, and a record sought below it. The whole image is mapped, not read. */
+static int search_image(FILE *file, const struct sought *sought)
+{
+    static struct image image;
+    uint64_t root[CARRYFS_ROOT_WORDS];
+    uint8_t text[CARRYFS_TEXT_BYTES];
+    struct stat about;
+    void *bytes;
+    int found;
+    image.file = file;
+    image.blocks = sought->blocks != 0 ? sought->blocks : count_blocks(file);
+    if (image.blocks == 0 || !image_root(&image, root, text))
+        return 0;
+    if (fstat(fileno(file), &about) != 0 ||
+        (bytes = mmap(NULL, (size_t)about.st_size, PROT_READ, MAP_PRIVATE, fileno(file), 0)) == MAP_FAILED) {
+        printf("the image can't be mapped: %s\n", strerror(errno));
+        return 0;
+    }
+    found = search(bytes, (size_t)about.st_size, root, text, sought);
+    munmap(bytes, (size_t)about.st_size);
+    return found;
 }
 
 /* Opens a file and tries to read it: a folder can be opened. */
@@ -483,6 +560,70 @@ static void finish(void)
     }
 }
 
+static int usage(void)
+{
+    fprintf(stderr, "usage: example [--image] FILE [DATA]\n       example --search FILE TREE KEY [BLOCKS]\n");
+    return 2;
+}
+
+/* The value of a hexadecimal digit, 16 of another character. */
+static unsigned digit(char c)
+{
+    static const char digits[] = "0123456789abcdefABCDEF";
+    const char *at = c != 0 ? strchr(digits, c) : NULL;
+    unsigned place = at ? (unsigned)(at - digits) : 16;
+    return at && place > 15 ? place - 6 : place;
+}
+
+/* A key from its digits, which it takes the place of. 0 where they aren't digits, two for each byte. */
+static int read_key(char *word, struct sought *sought)
+{
+    uint8_t *key = (uint8_t *)word;
+    size_t length = strlen(word) / 2;
+    size_t i;
+    if (strlen(word) % 2 != 0)
+        return 0;
+    for (i = 0; i < length; i++) {
+        unsigned high = digit(word[2 * i]), low = digit(word[2 * i + 1]);
+        if (high > 15 || low > 15)
+            return 0;
+        key[i] = (uint8_t)(high << 4 | low);
+    }
+    sought->key = key;
+    sought->length = length;
+    return 1;
+}
+
+/* A decimal number; another word is 0, which is no tree, and no number of blocks. */
+static uint64_t decimal(const char *word)
+{
+    char *end;
+    unsigned long long number = strtoull(word, &end, 10);
+    return *end == 0 ? number : 0;
+}
+
+/* The words behind --search. */
+static int search_words(int count, char **words)
+{
+    struct sought sought;
+    uint64_t kind;
+    FILE *file;
+    int found;
+    if ((count != 3 && count != 4) || !read_key(words[2], &sought))
+        return usage();
+    kind = decimal(words[1]);
+    sought.kind = kind <= UINT32_MAX ? (uint32_t)kind : 0;
+    sought.blocks = count == 4 ? decimal(words[3]) : 0;
+    if (count == 4 && (sought.blocks < LEAST_BLOCKS || sought.blocks > LONG_MAX / BLOCK)) {
+        fprintf(stderr, "%s: a volume doesn't have so many blocks\n", words[3]);
+        return 2;
+    }
+    file = open_file(words[0]);
+    found = search_image(file, &sought);
+    fclose(file);
+    return found ? 0 : 1;
+}
+
 int main(int count, char **words)
 {
     int image = count > 1 && strcmp(words[1], "--image") == 0;
@@ -490,12 +631,12 @@ int main(int count, char **words)
     FILE *file;
     if (atexit(finish) != 0)
         return 1;
+    if (count > 1 && strcmp(words[1], "--search") == 0)
+        return search_words(count - 2, words + 2);
     words += image;
     count -= image;
-    if (count != 2 && count != 3) {
-        fprintf(stderr, "usage: example [--image] FILE [DATA]\n");
-        return 2;
-    }
+    if (count != 2 && count != 3)
+        return usage();
     if (count == 3)
         read_data(words[2]);
     file = open_file(words[1]);

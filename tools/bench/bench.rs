@@ -423,6 +423,175 @@ fn groups(rows: &mut Vec<Row>) {
     }
 }
 
+/// An image, its root, the words and the text that a call of ours has of it, and the keys to seek.
+struct Volume {
+    image: Vec<u8>,
+    root: Root,
+    words: [u64; 18],
+    text: [u8; 271],
+    keys: Vec<Vec<u8>>,
+}
+
+/// What the pages of a tree are made of: how many records a leaf has, how many children a page above, and the n-th of all records.
+struct Shape {
+    leaf: u64,
+    children: u64,
+    record: fn(u64) -> Record,
+}
+
+/// 108 extents in a leaf, 108 children above it, as many as fit.
+const EXTENTS: Shape = Shape {
+    leaf: 108,
+    children: 108,
+    record: |n| {
+        let physical = 600 + n % 108;
+        (extent_key(n), [&physical.to_le_bytes()[..], &1u32.to_le_bytes(), &[0; 4]].concat())
+    },
+};
+
+/// 48 directory entries with names of 29 bytes, 69 children, as many as fit.
+const ENTRIES: Shape = Shape {
+    leaf: 48,
+    children: 69,
+    record: |n| {
+        let name = format!("a file with a long name{n:06}");
+        let value = [&(2 + n).to_le_bytes()[..], &[1, 0], &29u16.to_le_bytes(), name.as_bytes()].concat();
+        ([&1u64.to_be_bytes()[..], &[2], name.as_bytes()].concat(), value)
+    },
+};
+
+/// The block and the record that come next.
+struct Next {
+    block: u64,
+    record: u64,
+}
+
+/// Writes a page of a level and all below it. In each page of children so many are there, spread over it; the others are blocks of
+/// zeros, to which no key of a record leads.
+fn plant(volume: &mut Volume, shape: &Shape, level: u8, there: u64, next: &mut Next) {
+    let at = next.block;
+    next.block += 1;
+    let mut records = Vec::new();
+    if level == 0 {
+        records.extend((next.record..next.record + shape.leaf).map(shape.record));
+        volume.keys.extend(records.iter().map(|record| record.0.clone()));
+        next.record += shape.leaf;
+    }
+    for child in (0..shape.children).filter(|_| level > 0) {
+        let is_there = (child * there + shape.children / 2) % shape.children < there;
+        let block = if is_there { next.block } else { 2000 + child };
+        let reference = [block, 2].map(u64::to_le_bytes).concat();
+        records.push(((shape.record)(next.record).0, reference));
+        match is_there {
+            true => plant(volume, shape, level - 1, there, next),
+            false => next.record += 1,
+        }
+    }
+    let lent: Vec<(&[u8], &[u8])> = records.iter().map(|(k, v)| (&k[..], &v[..])).collect();
+    let mut page = [0; BLOCK_BYTES];
+    let reference = TreeRef { block: at, generation: 2 };
+    encode_node(&mut page, reference, &UUID, TreeKind::Catalog, &lent, B, level, 0).expect("a valid page");
+    let start = at as usize * BLOCK_BYTES;
+    volume.image[start..start + BLOCK_BYTES].copy_from_slice(&page);
+}
+
+/// A volume whose catalog has so many levels, with so many of each page's children in their places.
+fn volume(shape: &Shape, levels: u8, there: u64) -> Volume {
+    let block = root_block(2, 256);
+    let root = Root::decode(&block, 256, B).expect("a root");
+    let (mut words, mut text) = ([0; 18], [0; 271]);
+    // The slices live for the call and don't overlap.
+    unsafe { ours::carryfs_root(block.as_ptr(), block.len(), 256, B, words.as_mut_ptr(), 18, text.as_mut_ptr(), 271) };
+    let mut volume = Volume { image: vec![0; B as usize * BLOCK_BYTES], root, words, text, keys: Vec::new() };
+    plant(&mut volume, shape, levels - 1, there, &mut Next { block: root.catalog.block, record: 0 });
+    volume
+}
+
+/// The answer of a search: class, found, where key and value stand and how long they are, the pages accepted.
+fn search_ours(volume: &Volume, key: &[u8]) -> u64 {
+    let (image, mut out) = (black_box(&volume.image[..]), [0; 8]);
+    // The slices live for the call and don't overlap.
+    unsafe {
+        ours::carryfs_search(
+            image.as_ptr(),
+            image.len(),
+            volume.words.as_ptr(),
+            volume.words.len(),
+            volume.text.as_ptr(),
+            volume.text.len(),
+            TreeKind::Catalog as u32,
+            key.as_ptr(),
+            key.len(),
+            0,
+            out.as_mut_ptr(),
+            out.len(),
+        )
+    };
+    assert_eq!(out[0], 0);
+    digest(&out[2..])
+}
+
+/// The plain way down by the reference's reader, with the bounds kept: keys ascend, so the first and the last tell of all.
+fn descend<'a>(image: &'a [u8], root: &Root, key: &[u8], count: &mut u64) -> Result<Option<(&'a [u8], &'a [u8])>, u64> {
+    let (mut at, mut parent, mut level) = (root.catalog, root.generation, None);
+    let (mut low, mut high): (&[u8], Option<&[u8]>) = (&[], None);
+    let mut offsets = [0; 256];
+    loop {
+        if at.block >= (image.len() / BLOCK_BYTES) as u64 {
+            return Err(7);
+        }
+        let bytes = &image[at.block as usize * BLOCK_BYTES..][..BLOCK_BYTES];
+        let view =
+            decode_page(bytes, at, &root.uuid, TreeKind::Catalog, parent, level, root.blocks).map_err(|_| 3u64)?;
+        *count = count.saturating_add(1);
+        if view.records().next().is_some_and(|(first, _)| first < low) {
+            return Err(8);
+        }
+        if high.is_some_and(|high| view.records().last().is_some_and(|(last, _)| last >= high)) {
+            return Err(8);
+        }
+        let Some((_, mut records)) = view.floor_record(key, |x, y| x.cmp(y), &mut offsets) else { return Ok(None) };
+        let Some((found, value)) = records.next() else { return Ok(None) };
+        if view.level == 0 {
+            return Ok((found == key).then_some((found, value)));
+        }
+        let number = |at: usize| u64::from_le_bytes(value[at..at + 8].try_into().expect("8 bytes"));
+        (low, high) = (found, records.next().map(|record| record.0).or(high));
+        (parent, level) = (at.generation, Some(view.level - 1));
+        at = TreeRef { block: number(0), generation: number(8) };
+    }
+}
+
+fn search_reference(volume: &Volume, key: &[u8]) -> u64 {
+    let (image, mut count) = (black_box(&volume.image[..]), 0);
+    let found = descend(image, &volume.root, key, &mut count).expect("no refusal");
+    let place = |part: &[u8]| (part.as_ptr() as usize - image.as_ptr() as usize) as u64;
+    digest(&match found {
+        Some((key, value)) => [1, place(key), key.len() as u64, place(value), value.len() as u64, count],
+        None => [0, 0, 0, 0, 0, count],
+    })
+}
+
+/// Searches in catalogs of one to eight levels, with one way down, and in ones of three, with sixteen. Records are sought in turn.
+fn searches(rows: &mut Vec<Row>) {
+    let name = |levels| format!("search, {levels} level{}", if levels == 1 { "" } else { "s" });
+    let one_way = (1..=8).map(|levels| (name(levels), &EXTENTS, levels, 1));
+    let sixteen = [
+        ("search, 3 levels, 16 leaves of 108 extents".to_string(), &EXTENTS, 3, 4),
+        ("search, 3 levels, 16 leaves of 48 directory entries".to_string(), &ENTRIES, 3, 4),
+    ];
+    for (name, shape, levels, there) in one_way.chain(sixteen) {
+        let volume: &'static Volume = Box::leak(Box::new(volume(shape, levels, there)));
+        assert_eq!(volume.keys.len() as u64, shape.leaf * there.pow(u32::from(levels) - 1));
+        let (i, j) = (Cell::new(0), Cell::new(0));
+        let turn = move |at: &Cell<usize>| {
+            at.set((at.get() + 131) % volume.keys.len());
+            black_box(&volume.keys[at.get()][..])
+        };
+        row(rows, &name, move || search_ours(volume, turn(&i)), move || search_reference(volume, turn(&j)));
+    }
+}
+
 fn main() {
     let mut rows = Vec::new();
     checksum(&mut rows);
@@ -433,6 +602,7 @@ fn main() {
     lookups(&mut rows);
     slots(&mut rows);
     groups(&mut rows);
+    searches(&mut rows);
 
     println!("| benchmark | ours ns | Rust ns | ratio |");
     println!("|---|---|---|---|");

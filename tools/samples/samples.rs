@@ -350,6 +350,214 @@ fn volume() -> File {
     file
 }
 
+// The register: a volume whose catalog has three levels
+
+/// A list of pages, as tools/samples/image lays them into the image of a volume, and the row of each.
+#[derive(Default)]
+struct Pages {
+    bytes: Vec<u8>,
+    rows: Vec<[String; 4]>,
+}
+
+impl Pages {
+    fn add(&mut self, at: u64, what: &str, answer: String, keys: String, block: &Block) {
+        self.bytes.extend_from_slice(&at.to_le_bytes());
+        self.bytes.extend_from_slice(block);
+        self.rows.push([at.to_string(), what.to_string(), answer, keys]);
+    }
+
+    fn root(&mut self, what: &str, root: &Root, slot: u64) {
+        let case = RootCase::new(root, slot);
+        let got = Root::decode(&case.block, slot, B).expect("a root");
+        let label = got.label.expect("a label");
+        self.add(slot, what, format!("0 0 {} {}", got.generation, label.as_str()), String::new(), &case.block);
+    }
+
+    /// A page in its place, of so many data blocks if it isn't a leaf.
+    fn page(&mut self, what: &str, kind: TreeKind, at: TreeRef, level: u8, records: &[Record], total: u64) {
+        let mut page = [0; BLOCK_BYTES];
+        let lent: Vec<(&[u8], &[u8])> = records.iter().map(|(k, v)| (&k[..], &v[..])).collect();
+        encode_node(&mut page, at, &UUID, kind, &lent, B, level, total).expect("a valid page");
+        let view = decode_page(&page, at, &UUID, kind, at.generation, Some(level), B).expect("a page");
+        let hex = |key: &[u8]| key.iter().map(|byte| format!("{byte:02x}")).collect::<String>();
+        let keys = match (records.first(), records.last()) {
+            (Some((first, _)), Some((last, _))) if first != last => format!("{} to {}", hex(first), hex(last)),
+            (Some((only, _)), _) => hex(only),
+            _ => String::new(),
+        };
+        let answer = format!("0 0 {} {} {}", view.level, view.data_blocks, view.len());
+        self.add(at.block, what, answer, keys, &page);
+    }
+
+    fn block(&self, at: u64) -> &[u8] {
+        let mut pages = self.bytes.chunks(8 + BLOCK_BYTES);
+        let page = pages.find(|page| page[..8] == at.to_le_bytes()).unwrap_or_else(|| panic!("no block {at}"));
+        &page[8..]
+    }
+
+    /// How many pages a tree has from here down: each is accepted below its parent, and its keys are in their bounds.
+    fn held(
+        &self,
+        kind: TreeKind,
+        at: TreeRef,
+        parent: u64,
+        level: Option<u8>,
+        low: &[u8],
+        high: Option<&[u8]>,
+    ) -> usize {
+        let view = decode_page(self.block(at.block), at, &UUID, kind, parent, level, B).expect("a page of the tree");
+        let records: Vec<(&[u8], &[u8])> = view.records().collect();
+        let inside = |key: &[u8]| key >= low && high.is_none_or(|high| key < high);
+        assert!(records.iter().all(|(key, _)| inside(key)), "block {}: a key out of its bounds", at.block);
+        let mut pages = 1;
+        for (place, (key, value)) in records.iter().enumerate().filter(|_| view.level > 0) {
+            let number = |at: usize| u64::from_le_bytes(value[at..at + 8].try_into().expect("8 bytes"));
+            let next = records.get(place + 1).map(|record| record.0).or(high);
+            pages += self.held(kind, tree(number(0), number(8)), at.generation, Some(view.level - 1), key, next);
+        }
+        pages
+    }
+}
+
+/// The blocks of the register's pages, behind those of the pages that they replaced.
+const TOP: TreeRef = TreeRef { block: 530, generation: 5 };
+const HALVES: [TreeRef; 2] = [TreeRef { block: 531, generation: 5 }, TreeRef { block: 532, generation: 4 }];
+const LEAVES: [TreeRef; 4] = [
+    TreeRef { block: 533, generation: 5 },
+    TreeRef { block: 534, generation: 3 },
+    TreeRef { block: 535, generation: 2 },
+    TreeRef { block: 536, generation: 4 },
+];
+
+/// A file that says what was found, so many days before 2026-11-05.
+struct Kept {
+    object: u64,
+    directory: u64,
+    name: &'static str,
+    text: &'static str,
+    days: i64,
+}
+
+const fn kept(object: u64, directory: u64, name: &'static str, text: &'static str, days: i64) -> Kept {
+    Kept { object, directory, name, text, days }
+}
+
+const FILES: [Kept; 9] = [
+    kept(5, 1, "opening hours.txt", "Monday to Friday 9 to 17.\n", 900),
+    kept(6, 2, "0917 umbrella, black.txt", "Tram 5, 2025-11-02. Given back 2025-11-04.\n", 368),
+    kept(7, 2, "0918 five keys on a ring.txt", "Market hall, 2025-11-03. Shelf 2.\n", 367),
+    kept(8, 2, "0931 glove, left.txt", "Bus 12, 2025-12-19. Shelf 4, beside 0002.\n", 321),
+    kept(10, 3, "0001 scarf, red.txt", "Library, reading room, 2026-01-05. Shelf 4.\n", 304),
+    kept(11, 3, "0002 glove, right.txt", "Bus 12, 2026-01-07. Shelf 4, beside 0931.\n", 302),
+    kept(12, 3, "0003 walking stick.txt", "Town hall, 2026-02-11. Behind the door.\n", 267),
+    kept(13, 3, "0004 Mütze, blau.txt", "Tram 5, 2026-03-02. Shelf 4.\n", 248),
+    kept(14, 3, "0005 violin without a bow.txt", "Tram 9, 2026-06-21. Shelf 1, flat.\n", 137),
+];
+
+/// A file that has lost its name, and waits for its cleanup.
+const NAMELESS: Kept = kept(15, 3, "", "Town hall, 2026-08-14. Given back 2026-11-05.\n", 83);
+
+/// A file's inode, its extent and its checksum group; its data is one block, of which samples/ keeps the checksum alone.
+fn kept_file(file: &Kept) -> [Record; 3] {
+    let Kept { object, directory, text, days, .. } = *file;
+    let word = data_unit_crc(&UUID, object, 0, text.as_bytes()).expect("a unit");
+    let value = inode(1, directory, [text.len() as u64, 1, 0], RECENT - 86_400 * days, &[]);
+    [(owned(object, 1, &[]), value), extent(object, 0, 540 + object, 1), group(object, 0, &[(0, word)])]
+}
+
+/// A directory's inode and its entries, in the order of their names.
+fn kept_directory(object: u64, parent: u64, others: &[Record]) -> Vec<Record> {
+    let files =
+        FILES.iter().filter(|file| file.directory == object).map(|file| entry(object, file.name, file.object, 1));
+    let mut records: Vec<Record> = files.chain(others.iter().cloned()).collect();
+    records.sort();
+    let value = inode(2, parent, [0, 0, records.len() as u64], RECENT, &[]);
+    records.insert(0, (owned(object, 1, &[]), value));
+    records
+}
+
+/// The catalog's leaves: the directories and a link to this year's; the files.
+fn register_leaves() -> [Vec<Record>; 4] {
+    let years = [entry(1, "2025", 2, 2), entry(1, "2026", 3, 2), entry(1, "this year", 4, 3)];
+    let link = (owned(4, 1, &[]), inode(3, 1, [4, 0, 0], RECENT, b"2026"));
+    let files = |objects: std::ops::RangeInclusive<u64>| -> Vec<Record> {
+        FILES.iter().filter(|file| objects.contains(&file.object)).flat_map(kept_file).collect()
+    };
+    [
+        [kept_directory(1, 1, &years), kept_directory(2, 1, &[]), kept_directory(3, 1, &[]), vec![link]].concat(),
+        files(5..=8),
+        files(10..=12),
+        [files(13..=14), kept_file(&NAMELESS).to_vec()].concat(),
+    ]
+}
+
+/// The root of the register, of generation 5.
+fn register_root() -> Root {
+    Root {
+        label: Some(Label::new(b"Lost property").expect("a label")),
+        uuid: UUID,
+        generation: 5,
+        blocks: B,
+        catalog: TOP,
+        allocation: tree(537, 5),
+        cleanup: tree(538, 5),
+        next_object: 16,
+        free_blocks: 1024 - (REGISTER_TAKEN.end - REGISTER_TAKEN.start),
+        next_job: 1,
+        workspace: tree(B - 96, 5),
+        workspace_cursor: 0,
+    }
+}
+
+/// Blocks of pages that were replaced and of pages that are there, of data, and of the runs that the workspace keeps.
+const REGISTER_TAKEN: std::ops::Range<u64> = 512..580;
+
+/// Object 9 was removed: the first half's last bound is still its inode's key, and the second half starts behind it.
+fn register() -> Pages {
+    let mut pages = Pages::default();
+    let (root, leaves) = (register_root(), register_leaves());
+    let before = Root {
+        generation: 4,
+        catalog: tree(520, 4),
+        allocation: tree(521, 4),
+        cleanup: tree(522, 4),
+        workspace: tree(32, 4),
+        ..root
+    };
+    pages.root("the root of generation 5", &root, 256);
+    pages.root("the root of generation 4; its pages aren't in the list", &before, B - 257);
+    let to = |key: Vec<u8>, at: TreeRef| (key, child(at));
+    let ids = |object| owned(object, 1, &[]);
+    let files = |leaves: &[Vec<Record>]| leaves.concat().iter().filter(|(key, _)| key[8] == 3).count() as u64;
+    let kind = TreeKind::Catalog;
+    pages.page("catalog, the top", kind, TOP, 2, &[to(ids(1), HALVES[0]), to(ids(9), HALVES[1])], files(&leaves));
+    let halves = [[to(ids(1), LEAVES[0]), to(ids(5), LEAVES[1])], [to(ids(10), LEAVES[2]), to(ids(13), LEAVES[3])]];
+    pages.page("catalog, the objects below 9", kind, HALVES[0], 1, &halves[0], files(&leaves[..2]));
+    pages.page("catalog, those from 9 on; 9 is no more", kind, HALVES[1], 1, &halves[1], files(&leaves[2..]));
+    let what = ["the directories and a link", "files", "files", "files, one of them nameless"];
+    for place in 0..4 {
+        let what = format!("catalog leaf: {}", what[place]);
+        pages.page(&what, kind, LEAVES[place], 0, &leaves[place], 0);
+    }
+    let taken: Vec<u64> = REGISTER_TAKEN.collect();
+    pages.page("allocation leaf: group 0", TreeKind::Allocation, root.allocation, 0, &[bitmap(0, B, &taken)], 0);
+    let cleanup = [retirement(4, 512, 8), retirement(5, 520, 10), orphan(NAMELESS.object)];
+    pages.page("cleanup leaf: replaced pages, the nameless file", TreeKind::Cleanup, root.cleanup, 0, &cleanup, 0);
+    let runs = [run(560, 12), run(576, 4)];
+    pages.page("workspace leaf: blocks kept ready", TreeKind::Workspace, root.workspace, 0, &runs, 0);
+    let held: usize = [
+        (TreeKind::Catalog, root.catalog),
+        (TreeKind::Allocation, root.allocation),
+        (TreeKind::Cleanup, root.cleanup),
+        (TreeKind::Workspace, root.workspace),
+    ]
+    .map(|(kind, at)| pages.held(kind, at, root.generation, None, &[], None))
+    .iter()
+    .sum();
+    assert_eq!(held + 2, pages.rows.len(), "every page is in a tree, once");
+    pages
+}
+
 // Roots and pages, good and damaged
 
 fn good_roots(file: &mut File) {
@@ -661,6 +869,15 @@ fn rows(name: &str, file: &File, answers: &str) -> String {
     out
 }
 
+/// One row for each page of a list: its block, what it is, what is answered, its first and last key.
+fn page_rows(name: &str, pages: &Pages) -> String {
+    let mut out = format!("\n## {name}\n\n| block | what | answer | keys |\n|---|---|---|---|\n");
+    for [block, what, answer, keys] in &pages.rows {
+        writeln!(out, "| {block} | {what} | `{answer}` | {keys} |").expect("a string");
+    }
+    out
+}
+
 /// The blocks of a file's bodies.
 fn blocks(file: &File) -> Vec<&[u8]> {
     let (mut rest, mut found) = (&file.bytes[..], vec![]);
@@ -735,11 +952,13 @@ fn main() -> Result<(), String> {
     match words.iter().map(String::as_str).collect::<Vec<_>>()[..] {
         ["files", dir] => {
             write(format!("{dir}/volume.readback"), &volume().bytes)?;
+            write(format!("{dir}/levels.pages"), &register().bytes)?;
             write(format!("{dir}/readback.bin"), &readback().bytes)
         }
         ["contents", dir, head] => {
             let mut out = read(head)?;
             out += &rows("volume.readback", &volume(), &read(&format!("{dir}/volume.txt"))?);
+            out += &page_rows("levels.pages", &register());
             out += &rows("readback.bin", &readback(), &read(&format!("{dir}/readback.txt"))?);
             write(format!("{dir}/CONTENTS.md"), out.as_bytes())
         }

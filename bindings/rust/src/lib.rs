@@ -5,6 +5,8 @@
 //! The library is for Linux on x86-64 with SSE4.2, that is x86-64-v2: on an older processor a call may end in an illegal
 //! instruction.
 //!
+//! [`search`] finds a record in the image of a volume, from a root down. Page by page:
+//!
 //! ```
 //! use carryfs::{Refusal, Root, RootBlock, TreeKind, decode_page};
 //!
@@ -34,11 +36,12 @@ use core::iter::FusedIterator;
 mod library;
 use library::*;
 
-/// Why something is refused. Classes 1 and 4, and the length of a data unit, carry reason 0; the file docs/REASONS.md of the
+/// Why something is refused. Classes 1, 4, 7 and 8, and the length of a data unit, carry reason 0; the file docs/REASONS.md of the
 /// project's repository says in words what each other reason is.
 #[derive(Clone, Copy, Debug, PartialEq, Eq, Hash)]
 pub struct Refusal {
-    /// 1 geometry, 2 input (the caller's arguments), 3 corrupt, 4 unsupported; [`Refusal::NO_ANSWER`].
+    /// 1 geometry, 2 input (the caller's arguments), 3 corrupt, 4 unsupported; of a [`search`] also 7, a block beyond the image,
+    /// and 8, a key out of its bounds; [`Refusal::NO_ANSWER`].
     pub class: u16,
     /// The reason's number in docs/REASONS.md, or 0.
     pub reason: u16,
@@ -56,6 +59,8 @@ impl Refusal {
             2 => "input",
             3 => "corrupt",
             4 => "unsupported",
+            7 => "a block beyond the image",
+            8 => "a key out of its bounds",
             Self::NO_ANSWER => "no answer of the library",
             _ => "an unknown class",
         }
@@ -236,6 +241,34 @@ pub struct Root {
 }
 
 impl Root {
+    /// The words and the text that `decode` has of it, for a call that takes a root.
+    fn words(&self) -> ([u64; CARRYFS_ROOT_WORDS], [u8; CARRYFS_TEXT_BYTES]) {
+        let mut words = [0; CARRYFS_ROOT_WORDS];
+        let mut text = [0; CARRYFS_TEXT_BYTES];
+        text[CARRYFS_TEXT_UUID..CARRYFS_TEXT_UUID + 16].copy_from_slice(&self.uuid);
+        if let Some(label) = &self.label {
+            words[CARRYFS_ROOT_HAS_LABEL] = 1;
+            words[CARRYFS_ROOT_LABEL_LENGTH] = u64::from(label.len);
+            text[CARRYFS_TEXT_LABEL..CARRYFS_TEXT_LABEL + 255].copy_from_slice(&label.bytes);
+        }
+        for (at, tree) in [
+            (CARRYFS_ROOT_CATALOG, self.catalog),
+            (CARRYFS_ROOT_ALLOCATION, self.allocation),
+            (CARRYFS_ROOT_CLEANUP, self.cleanup),
+            (CARRYFS_ROOT_WORKSPACE, self.workspace),
+        ] {
+            words[at] = tree.block;
+            words[at + 1] = tree.generation;
+        }
+        words[CARRYFS_ROOT_GENERATION] = self.generation;
+        words[CARRYFS_ROOT_BLOCKS] = self.blocks;
+        words[CARRYFS_ROOT_NEXT_OBJECT] = self.next_object;
+        words[CARRYFS_ROOT_FREE_BLOCKS] = self.free_blocks;
+        words[CARRYFS_ROOT_NEXT_JOB] = self.next_job;
+        words[CARRYFS_ROOT_WORKSPACE_CURSOR] = self.workspace_cursor;
+        (words, text)
+    }
+
     /// The root in the block `slot` of a volume of so many blocks.
     ///
     /// ```
@@ -341,7 +374,7 @@ pub struct PageView<'a> {
 /// level that the caller expects, if any.
 ///
 /// For the root page of a tree, `reference`, `uuid` and `parent` are the [`Root`]'s: the tree of that kind, the UUID, and the
-/// generation; `level` is `None`. In a page of a level above 0 the value of each record is 16 bytes, a child's block and
+/// generation; `level` is `None`. In an internal page, of a level above 0, the value of each record is 16 bytes, a child's block and
 /// generation, each little-endian. The child is of the same kind, its `parent` is this page's generation, and its level is one
 /// less. Levels are 7 to 0, so there are at most eight pages on a way down.
 pub fn decode_page<'a>(
@@ -458,3 +491,82 @@ impl<'a> Iterator for Records<'a> {
 // The iterator stays as it is where no record is found, so none is found from there on. It has no ExactSizeIterator: a PageView can
 // be made by hand, and there a broken record can come before as many as its count says.
 impl FusedIterator for Records<'_> {}
+
+/// A record that a search found: parts of the image that was lent.
+#[derive(Clone, Copy, Debug, PartialEq, Eq, Hash)]
+pub struct Record<'a> {
+    /// The key that was sought, where it stands.
+    pub key: &'a [u8],
+    /// The value, which stands behind it.
+    pub value: &'a [u8],
+}
+
+/// The state of searches, to be lent to one after the other.
+#[derive(Clone, Copy, Debug, Default, PartialEq, Eq, Hash)]
+pub struct Searches {
+    /// The pages that they accepted, those of refused searches included. It stays at `u64::MAX`.
+    pub count: u64,
+}
+
+/// The record of a key in one of a root's four trees, sought from the tree's root page down to the leaf; `None` where there is none.
+/// The image is the volume, from its first block on. A root made by hand is taken as any other.
+///
+/// Each page on the way is checked as [`decode_page`] does it, and its keys are held to their bounds: below a record of a page of a
+/// level above 0 every key is at least that record's key, and below the next one's, where there is one; and so are the keys of all
+/// pages further down. A page above the leaf is left by the record that [`PageView::floor_record`] finds.
+///
+/// Refused with class 7 where a page's block ends beyond the image, which is tested before the page is read; as `decode_page`
+/// refuses a page; with class 8 where an accepted page has a key out of its bounds. Each accepted page is counted in `searches`, also
+/// where the search is refused.
+///
+/// ```
+/// use carryfs::{Refusal, Root, RootBlock, Searches, TreeKind, search};
+///
+/// /// The inode of an object in a volume.
+/// fn inode(image: &[u8], object: u64) -> Result<Option<&[u8]>, Refusal> {
+///     let blocks = image.len() as u64 / 4096;
+///     let block = |slot: u64| RootBlock { bytes: &image[slot as usize * 4096..][..4096], slot, blocks };
+///     let (_, root) = Root::select(block(256), block(blocks - 257))?;
+///     let key = [&object.to_be_bytes()[..], &[1]].concat();
+///     let found = search(image, &root, TreeKind::Catalog, &key, &mut Searches::default())?;
+///     Ok(found.map(|record| record.value))
+/// }
+///
+/// assert_eq!(inode(&vec![0; 2048 * 4096], 1), Err(Refusal { class: 3, reason: 163 }));
+/// ```
+pub fn search<'a>(
+    image: &'a [u8],
+    root: &Root,
+    kind: TreeKind,
+    key: &[u8],
+    searches: &mut Searches,
+) -> Result<Option<Record<'a>>, Refusal> {
+    let (words, text) = root.words();
+    let mut out = [0; CARRYFS_SEARCH_WORDS];
+    // Safe: the slices live for the call; the function writes `out`, which overlaps none of them, within its length and nothing else.
+    let status = unsafe {
+        carryfs_search(
+            image.as_ptr(),
+            image.len(),
+            words.as_ptr(),
+            words.len(),
+            text.as_ptr(),
+            text.len(),
+            kind as u32,
+            key.as_ptr(),
+            key.len(),
+            searches.count,
+            out.as_mut_ptr(),
+            out.len(),
+        )
+    };
+    if status as usize == CARRYFS_DONE {
+        searches.count = out[CARRYFS_SEARCH_COUNT];
+    }
+    accepted(status, &out)?;
+    if out[CARRYFS_SEARCH_FOUND] == 0 {
+        return Ok(None);
+    }
+    let part = |at: usize| &image[out[at] as usize..][..out[at + 1] as usize];
+    Ok(Some(Record { key: part(CARRYFS_SEARCH_KEY), value: part(CARRYFS_SEARCH_VALUE) }))
+}

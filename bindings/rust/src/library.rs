@@ -73,6 +73,15 @@ numbers! {
     CARRYFS_NEXT_VALUE_END 3
     CARRYFS_NEXT_REMAINING 4
     CARRYFS_NEXT_WORDS 5
+    CARRYFS_SEARCH_CLASS 0
+    CARRYFS_SEARCH_REASON 1
+    CARRYFS_SEARCH_FOUND 2
+    CARRYFS_SEARCH_KEY 3
+    CARRYFS_SEARCH_KEY_LENGTH 4
+    CARRYFS_SEARCH_VALUE 5
+    CARRYFS_SEARCH_VALUE_LENGTH 6
+    CARRYFS_SEARCH_COUNT 7
+    CARRYFS_SEARCH_WORDS 8
 }
 
 unsafe extern "C" {
@@ -145,4 +154,18 @@ unsafe extern "C" {
         room: usize,
     ) -> u32;
     pub fn carryfs_next(part: *const u8, length: usize, remaining: usize, out: *mut u64, room: usize) -> u32;
+    pub fn carryfs_search(
+        image: *const u8,
+        image_length: usize,
+        root: *const u64,
+        root_length: usize,
+        text: *const u8,
+        text_length: usize,
+        kind: u32,
+        key: *const u8,
+        key_length: usize,
+        count: u64,
+        out: *mut u64,
+        room: usize,
+    ) -> u32;
 }

@@ -18,7 +18,10 @@ mod ondisk {
 
 #[cfg(reference)]
 mod beside {
-    use crate::common::{Body, PageBlock, READBACK, VOLUME, bodies, group, group_key, pages, roots, stranger};
+    use crate::common::{
+        BLOCK, Body, KINDS, PageBlock, READBACK, VOLUME, bodies, change, group, group_key, leaf_records, pages,
+        register, register_pages, roots, stranger, tree_of, with_tree,
+    };
     use crate::ondisk::error::Error;
     use crate::ondisk::{crc, format};
     use carryfs::*;
@@ -117,15 +120,19 @@ mod beside {
         }
     }
 
-    fn compare_page(page: PageBlock) -> bool {
-        let PageBlock { bytes, at, uuid, kind, parent, level, blocks } = page;
-        let ours = decode_page(bytes, at, uuid, kind, parent, level, blocks);
-        let kind = match kind {
+    fn reference_kind(kind: TreeKind) -> format::TreeKind {
+        match kind {
             TreeKind::Catalog => format::TreeKind::Catalog,
             TreeKind::Allocation => format::TreeKind::Allocation,
             TreeKind::Cleanup => format::TreeKind::Cleanup,
             TreeKind::Workspace => format::TreeKind::Workspace,
-        };
+        }
+    }
+
+    fn compare_page(page: PageBlock) -> bool {
+        let PageBlock { bytes, at, uuid, kind, parent, level, blocks } = page;
+        let ours = decode_page(bytes, at, uuid, kind, parent, level, blocks);
+        let kind = reference_kind(kind);
         let at = format::TreeRef { block: at.block, generation: at.generation };
         let due = format::decode_page(bytes, at, uuid, kind, parent, level, blocks);
         match (&due, &ours) {
@@ -254,6 +261,163 @@ mod beside {
         }
         for due in [Ok(())].into_iter().chain([55, 85, 86, 87].map(|reason| Err(Refusal { class: 3, reason }))) {
             assert!(answers.contains(&due), "{due:?}");
+        }
+    }
+
+    /// A key and a value.
+    type Parts<'a> = (&'a [u8], &'a [u8]);
+
+    /// A search by the reference's reader: the plain way down.
+    fn descend<'a>(
+        image: &'a [u8],
+        root: &Root,
+        kind: TreeKind,
+        key: &[u8],
+        count: &mut u64,
+    ) -> Result<Option<Parts<'a>>, Refusal> {
+        let TreeRef { block, generation } = tree_of(root, kind);
+        let mut at = format::TreeRef { block, generation };
+        let (mut parent, mut level) = (root.generation, None);
+        let (mut low, mut high): (&[u8], Option<&[u8]>) = (&[], None);
+        loop {
+            if at.block >= (image.len() / BLOCK) as u64 {
+                return Err(Refusal { class: 7, reason: 0 });
+            }
+            let bytes = &image[at.block as usize * BLOCK..][..BLOCK];
+            let view = format::decode_page(bytes, at, &root.uuid, reference_kind(kind), parent, level, root.blocks)
+                .map_err(told)?;
+            *count = count.saturating_add(1);
+            if view.records().any(|(key, _)| key < low || high.is_some_and(|high| key >= high)) {
+                return Err(Refusal { class: 8, reason: 0 });
+            }
+            let Some((_, mut records)) = view.floor_record(key, |x, y| x.cmp(y), &mut [0; 1024]) else {
+                return Ok(None);
+            };
+            let (found, value) = records.next().expect("the floor record");
+            if view.level == 0 {
+                return Ok((found == key).then_some((found, value)));
+            }
+            let number = |at: usize| u64::from_le_bytes(value[at..at + 8].try_into().expect("8 bytes"));
+            (low, high) = (found, records.next().map(|record| record.0).or(high));
+            (parent, level) = (at.generation, Some(view.level - 1));
+            at = format::TreeRef { block: number(0), generation: number(8) };
+        }
+    }
+
+    /// Stands for the class where none is found.
+    const NONE: u16 = 100;
+
+    /// Compares a search, with the places of what it finds and the pages that it accepts; the class of the answer.
+    fn compare_search(image: &[u8], root: &Root, kind: TreeKind, key: &[u8]) -> u16 {
+        let mut count = if key.len() % 2 == 0 { 5 } else { u64::MAX - 2 };
+        let mut searches = Searches { count };
+        let due = descend(image, root, kind, key, &mut count);
+        let ours = search(image, root, kind, key, &mut searches);
+        let places = |(key, value): Parts| (key.as_ptr_range(), value.as_ptr_range());
+        assert_eq!(
+            ours.map(|found| found.map(|record| places((record.key, record.value)))),
+            due.map(|found| found.map(places)),
+            "{kind:?} {key:?}"
+        );
+        assert_eq!(searches.count, count);
+        ours.map_or_else(|refusal| refusal.class, |found| if found.is_some() { 0 } else { NONE })
+    }
+
+    /// The keys of a tree's leaves and their neighbours, and some of no tree.
+    fn search_keys(image: &[u8], root: &Root, kind: TreeKind) -> Vec<Vec<u8>> {
+        let mut keys: Vec<Vec<u8>> = vec![vec![], vec![0], vec![255; 20], [&9u64.to_be_bytes()[..], &[1]].concat()];
+        for (key, _) in leaf_records(image, root, kind, tree_of(root, kind), root.generation) {
+            keys.extend([key.to_vec(), [key, &[0][..]].concat(), key[..key.len() - 1].to_vec()]);
+        }
+        keys
+    }
+
+    #[test]
+    fn searches_are_answered_alike() {
+        let (image, root) = register();
+        let mut classes = Vec::new();
+        for kind in KINDS {
+            for key in search_keys(&image, &root, kind) {
+                classes.push(compare_search(&image, &root, kind, &key));
+            }
+            // The image ends at a block, and beside it.
+            let key = leaf_records(&image, &root, kind, tree_of(&root, kind), root.generation)[0].0.to_vec();
+            for block in [0, 1].into_iter().chain(529..540).chain([1951, 1952, 1953, 2047, 2048]) {
+                for length in [block * BLOCK, block * BLOCK + 1, (block + 1) * BLOCK - 1] {
+                    classes.push(compare_search(&image[..length.min(image.len())], &root, kind, &key));
+                }
+            }
+            // Roots made by hand: every page as the tree's top, and blocks that aren't there.
+            for block in
+                register_pages().into_iter().map(|block| block as u64).chain([0, 2047, 2048, 1 << 52, u64::MAX])
+            {
+                for generation in 0..7 {
+                    let other = with_tree(&root, kind, TreeRef { block, generation });
+                    classes.push(compare_search(&image, &other, kind, &key));
+                }
+            }
+            for other in [
+                Root { generation: 0, ..root },
+                Root { generation: 4, ..root },
+                Root { generation: u64::MAX, ..root },
+                Root { blocks: 0, ..root },
+                Root { blocks: 1044, ..root },
+                Root { blocks: u64::MAX, ..root },
+                Root { uuid: [0; 16], ..root },
+                Root { uuid: [1; 16], ..root },
+                Root { label: None, ..root },
+            ] {
+                classes.push(compare_search(&image, &other, kind, &key));
+            }
+        }
+        for due in [0, NONE, 2, 3, 7] {
+            assert!(classes.contains(&due), "class {due}");
+        }
+    }
+
+    /// Both keys of each page above the leaves with other objects, so that pages below have keys out of their bounds.
+    #[test]
+    fn searches_out_of_bounds_are_answered_alike() {
+        let (image, root) = register();
+        let keys = search_keys(&image, &root, TreeKind::Catalog);
+        let mut answers = Vec::new();
+        for block in [530, 531, 532] {
+            for at in [84 + 7, 113 + 7] {
+                for object in 1..=16 {
+                    let mut other = image.clone();
+                    change(&mut other, block, at, &[object]);
+                    for key in keys.iter().skip(usize::from(object) % 5).step_by(5) {
+                        answers.push(compare_search(&other, &root, TreeKind::Catalog, key));
+                    }
+                }
+            }
+        }
+        assert!(answers.iter().filter(|&&answer| answer == 8).count() > 100);
+    }
+
+    /// Every byte of the pages' heads and first records, and each 64th of the rest, with other values and a checksum that fits.
+    #[test]
+    fn searches_of_damaged_pages_are_answered_alike() {
+        let (image, root) = register();
+        let mut classes = Vec::new();
+        for kind in [TreeKind::Catalog, TreeKind::Workspace] {
+            let keys: Vec<Vec<u8>> = search_keys(&image, &root, kind).into_iter().step_by(7).collect();
+            let mut damaged = image.clone();
+            for block in register_pages() {
+                for at in (0..170).chain((192..BLOCK).step_by(64)) {
+                    let old = image[block * BLOCK + at];
+                    for new in [old ^ 1, old.wrapping_add(1), old.wrapping_sub(1), old ^ 0x80] {
+                        change(&mut damaged, block, at, &[new]);
+                        let key = &keys[(at + usize::from(new)) % keys.len()];
+                        classes.push(compare_search(&damaged, &root, kind, key));
+                    }
+                    change(&mut damaged, block, at, &[old]);
+                }
+                assert!(damaged == image);
+            }
+        }
+        for due in [0, NONE, 3, 4, 8] {
+            assert!(classes.contains(&due), "class {due}");
         }
     }
 

@@ -1,9 +1,12 @@
 //! The binding on the blocks of samples/, held to what is written beside them, and the library on what a binding never gives it.
 use carryfs::{
-    PageView, Refusal, Root, RootBlock, TreeKind, Which, checksum_slot, crc32c, data_unit_crc, decode_page,
-    validate_checksum_group,
+    PageView, Record, Refusal, Root, RootBlock, Searches, TreeKind, TreeRef, Which, checksum_slot, crc32c,
+    data_unit_crc, decode_page, search, validate_checksum_group,
 };
-use common::{BLOCK, Body, READBACK, VOLUME, bodies, group, group_key, pages, roots, stranger};
+use common::{
+    BLOCK, Body, KINDS, READBACK, VOLUME, bodies, change, group, group_key, leaf_records, pages, register, roots,
+    stranger, tree_of, with_tree,
+};
 
 mod common;
 #[path = "../src/library.rs"]
@@ -195,9 +198,161 @@ fn refusals_have_a_text() {
     assert_eq!(text(2, 14), "refused as input, reason 14");
     assert_eq!(text(3, 24), "refused as corrupt, reason 24");
     assert_eq!(text(4, 0), "refused as unsupported, reason 0");
+    assert_eq!(text(7, 0), "refused as a block beyond the image, reason 0");
+    assert_eq!(text(8, 0), "refused as a key out of its bounds, reason 0");
     assert_eq!(text(5, 1), "refused as an unknown class, reason 1");
     let error: Box<dyn std::error::Error> = Box::new(Refusal { class: Refusal::NO_ANSWER, reason: 1 });
     assert_eq!(error.to_string(), "refused as no answer of the library, reason 1");
+}
+
+/// What a search answers, and the pages that it accepted.
+fn sought<'a>(image: &'a [u8], root: &Root, kind: TreeKind, key: &[u8]) -> (Result<Option<Record<'a>>, Refusal>, u64) {
+    let mut searches = Searches::default();
+    (search(image, root, kind, key, &mut searches), searches.count)
+}
+
+/// An inode's key.
+fn inode(object: u64) -> Vec<u8> {
+    [&object.to_be_bytes()[..], &[1]].concat()
+}
+
+#[test]
+fn every_record_of_a_volume_is_found() {
+    let (image, root) = register();
+    let mut searches = Searches::default();
+    let mut pages = 0;
+    for kind in KINDS {
+        let records = leaf_records(&image, &root, kind, tree_of(&root, kind), root.generation);
+        assert!(!records.is_empty());
+        for &(key, value) in &records {
+            // The sought key stands elsewhere.
+            let own = key.to_vec();
+            let found = search(&image, &root, kind, &own, &mut searches).expect("no refusal").expect("a record");
+            assert_eq!((found.key, found.value), (key, value));
+            // The parts are the image's own.
+            assert_eq!((found.key.as_ptr(), found.value.as_ptr()), (key.as_ptr(), value.as_ptr()));
+            pages += if kind == TreeKind::Catalog { 3 } else { 1 };
+            assert_eq!(searches.count, pages);
+            for other in [[key, &[0]].concat(), key[..key.len() - 1].to_vec()] {
+                if !records.iter().any(|record| record.0 == other) {
+                    assert_eq!(sought(&image, &root, kind, &other).0, Ok(None), "{other:?}");
+                }
+            }
+        }
+    }
+}
+
+#[test]
+fn a_key_of_no_record_is_none() {
+    let (image, root) = register();
+    for (key, pages) in [
+        (vec![], 1),
+        (vec![0; 9], 1),
+        (inode(1)[..8].to_vec(), 1),
+        ([inode(1), vec![0]].concat(), 3),
+        // Object 9 is no more: it is below the first key of a page inside the tree.
+        (inode(9), 2),
+        (inode(16), 3),
+        (vec![255; 70_000], 3),
+    ] {
+        assert_eq!(sought(&image, &root, TreeKind::Catalog, &key), (Ok(None), pages), "{key:?}");
+    }
+    // An empty leaf has no key at all.
+    let mut empty = image.clone();
+    change(&mut empty, 1952, 32, &[0; 4]);
+    empty[1952 * BLOCK + 80..1953 * BLOCK].fill(0);
+    change(&mut empty, 1952, 0, &[]);
+    assert_eq!(sought(&empty, &root, TreeKind::Workspace, &[]), (Ok(None), 1));
+}
+
+#[test]
+fn a_search_is_refused_as_its_pages_are() {
+    let (image, root) = register();
+    let key = inode(10);
+    let seek = |image: &[u8], root: &Root| {
+        let (answer, pages) = sought(image, root, TreeKind::Catalog, &key);
+        (answer.map(|found| found.is_some()), pages)
+    };
+    assert_eq!(seek(&image, &root), (Ok(true), 3));
+    // The image ends before a page, or within it.
+    for (blocks, pages) in [(0, 0), (530, 0), (531, 1), (532, 1), (533, 2), (535, 2)] {
+        assert_eq!(seek(&image[..blocks * BLOCK], &root), (refused(7, 0), pages));
+        assert_eq!(seek(&image[..(blocks + 1) * BLOCK - 1], &root).0, refused(7, 0));
+    }
+    assert_eq!(seek(&image[..536 * BLOCK], &root), (Ok(true), 3));
+    // A page is damaged.
+    for (pages, block) in [530, 532, 535].into_iter().enumerate() {
+        let mut bad = image.clone();
+        bad[block * BLOCK + 100] ^= 1;
+        assert_eq!(seek(&bad, &root), (refused(3, 137), pages as u64));
+    }
+    let mut other_level = image.clone();
+    change(&mut other_level, 532, 14, &[2]);
+    assert_eq!(seek(&other_level, &root), (refused(3, 145), 1));
+    // A leaf has a key below its lower bound, since its record in the page above has a higher key now, to which no leaf leads.
+    let mut low = image.clone();
+    change(&mut low, 532, 84 + 7, &[11]);
+    assert_eq!(sought(&low, &root, TreeKind::Catalog, &inode(11)), (refused(8, 0), 3));
+    assert_eq!(seek(&low, &root), (Ok(false), 2));
+    // One isn't below its upper bound, the key of the record behind.
+    let mut high = image.clone();
+    change(&mut high, 532, 113 + 7, &[11]);
+    assert_eq!(seek(&high, &root), (refused(8, 0), 3));
+    let mut at = image.clone();
+    change(&mut at, 531, 113 + 7, &[4]);
+    assert_eq!(sought(&at, &root, TreeKind::Catalog, &inode(1)), (refused(8, 0), 3));
+    // A page inside the tree has one.
+    let mut inside = image.clone();
+    change(&mut inside, 530, 113 + 7, &[11]);
+    assert_eq!(sought(&inside, &root, TreeKind::Catalog, &inode(11)), (refused(8, 0), 2));
+    // A refusal of the page comes first.
+    change(&mut low, 535, 15, &[1]);
+    assert_eq!(sought(&low, &root, TreeKind::Catalog, &inode(11)), (refused(3, 146), 2));
+    // The bound comes from two levels above.
+    let mut far = image.clone();
+    change(&mut far, 530, 113 + 7, &[8]);
+    assert_eq!(sought(&far, &root, TreeKind::Catalog, &inode(6)), (refused(8, 0), 3));
+    assert_eq!(seek(&far, &root), (Ok(true), 3));
+}
+
+#[test]
+fn a_root_made_by_hand_is_taken_as_any_other() {
+    let (image, root) = register();
+    let seek = |root: &Root| {
+        let (answer, pages) = sought(&image, root, TreeKind::Catalog, &inode(10));
+        (answer.map(|found| found.is_some()), pages)
+    };
+    assert_eq!(seek(&Root { label: None, workspace_cursor: 9, next_object: 0, ..root }), (Ok(true), 3));
+    assert_eq!(seek(&Root { generation: u64::MAX, ..root }), (Ok(true), 3));
+    assert_eq!(seek(&Root { generation: 4, ..root }), (refused(2, 135), 0));
+    assert_eq!(seek(&Root { blocks: 1023, ..root }), (refused(2, 5), 0));
+    assert_eq!(seek(&Root { blocks: 1042, ..root }), (refused(2, 6), 0));
+    assert_eq!(seek(&Root { blocks: 1045, ..root }), (refused(3, 6), 1));
+    assert_eq!(seek(&Root { uuid: [0; 16], ..root }), (refused(2, 13), 0));
+    assert_eq!(seek(&Root { uuid: [1; 16], ..root }), (refused(3, 150), 0));
+    // A page inside the tree can be its top; a page of another tree can't.
+    assert_eq!(seek(&Root { catalog: TreeRef { block: 532, generation: 4 }, ..root }), (Ok(true), 2));
+    assert_eq!(seek(&Root { catalog: TreeRef { block: 535, generation: 2 }, ..root }), (Ok(true), 1));
+    assert_eq!(seek(&Root { catalog: root.cleanup, ..root }), (refused(3, 143), 0));
+    for block in [2048, 1 << 52, (1 << 52) + 530, u64::MAX] {
+        for kind in KINDS {
+            let tree = TreeRef { block, generation: 1 };
+            assert_eq!(sought(&image, &with_tree(&root, kind, tree), kind, &[1]), (refused(7, 0), 0));
+        }
+    }
+}
+
+#[test]
+fn the_count_stays_at_its_largest_value() {
+    let (image, root) = register();
+    for (before, after) in [(0, 3), (7, 10), (u64::MAX - 3, u64::MAX), (u64::MAX - 1, u64::MAX), (u64::MAX, u64::MAX)] {
+        let mut searches = Searches { count: before };
+        assert!(search(&image, &root, TreeKind::Catalog, &inode(1), &mut searches).is_ok_and(|found| found.is_some()));
+        assert_eq!(searches.count, after);
+    }
+    let mut searches = Searches { count: u64::MAX - 1 };
+    assert_eq!(search(&image[..535 * BLOCK], &root, TreeKind::Catalog, &inode(10), &mut searches), refused(7, 0));
+    assert_eq!(searches.count, u64::MAX);
 }
 
 /// Every number of the header has the same name and value in the binding, and there is no other.
@@ -226,10 +381,11 @@ fn room_is_respected() {
     let (full, _) = group(&[3]);
     let key = group_key(0);
     let [old, new] = roots(VOLUME)[..] else { panic!("two roots") };
-    for room in 0..8 {
+    let (image, _) = register();
+    for room in 0..10 {
         // A call that answers so many words, of which the first is 0.
         let check = |words: usize, call: &dyn Fn(*mut u64) -> u32| {
-            let mut out = [9u64; 8];
+            let mut out = [9u64; 10];
             let status = call(out.as_mut_ptr());
             let written = if room < words { 0 } else { words };
             assert_eq!(status, u32::from(room < words));
@@ -258,6 +414,7 @@ fn room_is_respected() {
             library::carryfs_lookup(full.as_ptr(), 0, 0, key.as_ptr(), 17, [0u16; 0].as_mut_ptr(), 0, out, room)
         });
         check(5, &|out| unsafe { library::carryfs_next(full.as_ptr(), 0, 0, out, room) });
+        check(8, &|out| unsafe { ask_search(&image, 18, 271, 1, out, room) });
     }
     for (room, text_room) in [(17, 271), (18, 270), (18, 271), (20, 280)] {
         let mut out = [9u64; 20];
@@ -280,6 +437,32 @@ fn room_is_respected() {
         let (words, bytes) = if fits { (18, 271) } else { (0, 0) };
         assert!(out[words..].iter().all(|&word| word == 9) && text[bytes..].iter().all(|&byte| byte == 9));
         assert!(!fits || (out[0] == 3 && text[..271].iter().all(|&byte| byte == 0)));
+    }
+}
+
+/// A search in the register's image for a key below all others, with a root of so many words and so many bytes of text.
+unsafe fn ask_search(image: &[u8], words: usize, text: usize, kind: u32, out: *mut u64, room: usize) -> u32 {
+    let mut root = [0u64; 18 + 2];
+    root[4..8].copy_from_slice(&[5, 2048, 530, 5]);
+    let mut bytes = [0u8; 271 + 2];
+    bytes[..16].copy_from_slice(&image[530 * BLOCK + 40..][..16]);
+    assert!(words <= root.len() && text <= bytes.len());
+    // Safe: all have at least as many elements as is said, `out` by the caller's word.
+    unsafe {
+        library::carryfs_search(
+            image.as_ptr(),
+            image.len(),
+            root.as_ptr(),
+            words,
+            bytes.as_ptr(),
+            text,
+            kind,
+            image.as_ptr(),
+            9,
+            7,
+            out,
+            room,
+        )
     }
 }
 
@@ -310,6 +493,28 @@ fn senseless_arguments_are_not_asked() {
         };
         assert_eq!(got, status);
         assert_eq!(out[6], if status == 0 { 0 } else { 9 });
+    }
+    let (image, _) = register();
+    for (words, text, kind, status) in [
+        (18, 271, 1, 0),
+        (17, 271, 1, 2),
+        (19, 271, 1, 2),
+        (0, 271, 1, 2),
+        (18, 270, 1, 2),
+        (18, 272, 1, 2),
+        (18, 0, 1, 2),
+        (18, 271, 0, 2),
+        (18, 271, 5, 2),
+        (18, 271, 257, 2),
+        (18, 271, u32::MAX, 2),
+    ] {
+        for room in [0, 7, 8] {
+            let mut out = [9u64; 8];
+            // Safe: `out` has as many elements as is said, or more.
+            let got = unsafe { ask_search(&image, words, text, kind, out.as_mut_ptr(), room) };
+            assert_eq!(got, if status == 0 { u32::from(room < 8) } else { status });
+            assert_eq!(out, if got == 0 { [0, 0, 0, 0, 0, 0, 0, 8] } else { [9; 8] });
+        }
     }
     for size in [0, 15, 16, 17] {
         let mut out = [9u64; 3];

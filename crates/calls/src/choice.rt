@@ -34,7 +34,7 @@ fn given_label(stored: &[u8], text: &[u8]) -> Label
 
 // A made-up root: its numbers stand one after the other, eight bytes each.
 #[tactic(auto, unfolding(crate::specs::Given::given_root))]
-fn given_root(stored: &[u8], uuid: &[u8], text: &[u8]) -> Root
+pub fn given_root(stored: &[u8], uuid: &[u8], text: &[u8]) -> Root
     ensures { result ≡ given_root stored.now uuid.now text.now }
 {
     let label = (octets::u64_at(stored, 8) == 1).then(|| given_label(stored, text));

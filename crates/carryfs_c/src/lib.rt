@@ -14,9 +14,11 @@ ghost use Rattle.root.specs.Root.{root_decode};
 ghost use Rattle.root.specs.Select.{choose_root};
 ghost use Rattle.root.specs.Words.{root_words, root_text, choice_words};
 ghost use Rattle.carryfs.specs.Words.{room, status_of, asked_status, placed, group_words, is_uuid, slot_root, can_ask, asked_page};
+ghost use Rattle.search.specs.Given.{can_search, asked_search};
 
 use error::Validation;
 use root::Root;
+use search::Searches;
 use volume::TreeRef;
 
 // The checksum of `bytes`.
@@ -207,5 +209,47 @@ pub extern "C" fn carryfs_page(
         return 2;
     };
     let words = asked_page(bytes, block, generation, id, kind, parent, level, blocks);
+    place(&words, out)
+}
+
+#[tactic(auto, unfolding(search::specs::Given::asked_search))]
+fn asked_search(
+    image: &[u8],
+    root: &[u64; 18],
+    text: &[u8; 271],
+    kind: u32,
+    key: &[u8],
+    count: u64,
+) -> [u64; 8]
+    ensures { result ≡ asked_search image.now root.now text.now kind key.now count }
+{
+    let root = search::words::root_given(root, text);
+    let tree = volume::tree_kind_of(u64::from(kind));
+    search::words::search_words(search::search(image, root, tree, key, Searches { count }))
+}
+
+// The record with a key in a tree of an image, from the tree's root page down.
+#[tactic(auto, unfolding(search::specs::Given::can_search))]
+#[unsafe(no_mangle)]
+pub extern "C" fn carryfs_search(
+    image: &[u8],
+    root: &[u64],
+    text: &[u8],
+    kind: u32,
+    key: &[u8],
+    count: u64,
+    out: &mut [u64],
+) -> u32
+    ensures value { result ≡ asked_status (can_search (length root.now) (length text.now) kind) (room 8 out.old) }
+    ensures out_after { out.new ≡ placed (can_search (length root.now) (length text.now) kind && room 8 out.old) (asked_search image.now root.now text.now kind key.now count) out.old }
+{
+    let (Ok(root), Ok(text), 1..=4) = (
+        <&[u64; 18]>::try_from(root),
+        <&[u8; 271]>::try_from(text),
+        kind,
+    ) else {
+        return 2;
+    };
+    let words = asked_search(image, root, text, kind, key, count);
     place(&words, out)
 }

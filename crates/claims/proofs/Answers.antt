@@ -448,6 +448,39 @@ unfolding decode_page
 page_answers reference uuid kind parent_generation expected_level blocks page =
     valued_these refl (accepted_page page) (page_demands reference uuid kind parent_generation expected_level blocks page) (search (good, header_answers, content_answers))
 
+-- where the caller's part passes, only what is stored is refused
+abbrev pub stored_classes : List ℕ
+stored_classes = 0 ∷ 3 ∷ 4 ∷ []
+
+format_stored : (page : List ℕ) → In (These stored_classes) (check_format page)
+unfolding check_format
+format_stored page = listed_these refl (format_demands page) (search good)
+
+kind_stored : (kind : TreeKind) (expected_level : Option ℕ) (page : List ℕ) → In (These stored_classes) (check_kind kind expected_level page)
+unfolding check_kind
+kind_stored kind expected_level page = listed_these refl (kind_demands kind expected_level page) (search good)
+
+identity_stored : (reference : TreeRef) (uuid : List ℕ) (kind : TreeKind) (parent_generation blocks : ℕ) (page : List ℕ) → In (These stored_classes) (check_identity reference uuid kind parent_generation blocks page)
+unfolding check_identity
+identity_stored reference uuid kind parent_generation blocks page = listed_these refl (identity_demands reference uuid kind parent_generation blocks page) (search good)
+
+module _ (reference : TreeRef) (uuid : List ℕ) (kind : TreeKind) (parent_generation : ℕ) (expected_level : Option ℕ) (blocks : ℕ) (page : List ℕ) (passed : check_caller reference uuid kind parent_generation expected_level blocks page ≡ Ok tt) where
+  caller_stored : In (These stored_classes) (check_caller reference uuid kind parent_generation expected_level blocks page)
+  caller_stored = record { told = rw passed refl }
+
+  header_stored : In (These stored_classes) (validate_page_header reference uuid kind parent_generation expected_level blocks page)
+  unfolding validate_page_header
+  header_stored =
+      listed_these refl (header_demands reference uuid kind parent_generation expected_level blocks page)
+      (passed_on _ caller_stored, (passed_on _ (format_stored page), (passed_on _ (kind_stored kind expected_level page), (passed_on _ (identity_stored reference uuid kind parent_generation blocks page), tt))))
+
+  pub page_stored : AnswersIn stored_classes (decode_page reference uuid kind parent_generation expected_level blocks page)
+  unfolding decode_page
+  page_stored =
+      to
+      (valued_these refl (accepted_page page) (page_demands reference uuid kind parent_generation expected_level blocks page)
+      (passed_on _ header_stored, (passed_disk _ (content_answers kind blocks page) refl, tt)))
+
 verified_answers : (reference : TreeRef) (uuid : List ℕ) (kind : TreeKind) (parent_generation : ℕ) (expected_level : Option ℕ) (page : List ℕ) → In (These (0 ∷ 3 ∷ [])) (verified_page_view reference uuid kind parent_generation expected_level page)
 unfolding verified_page_view
 verified_answers reference uuid kind parent_generation expected_level page = valued_these refl (accepted_page page) (verified_demands reference uuid kind parent_generation expected_level page) (search good)

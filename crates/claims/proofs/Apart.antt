@@ -6,7 +6,9 @@ use native.Mathlib.Omega.{arith}
 use lib.Dec.{eqb}
 use Rattle.std.specs.Prelude.{Some, None, Ok, Err}
 use Rattle.error.specs.declared.Error.{Error}
-use Rattle.error.specs.declared.Error.TheVariants.{InvalidGeometry, InvalidInput, Corrupt, UnsupportedFormat, InvalidName, TooLong}
+use Rattle.error.specs.declared.Error.TheVariants.{InvalidGeometry, InvalidInput, Corrupt, UnsupportedFormat, InvalidName, TooLong, Added}
+use Rattle.error.specs.declared.Class.{Class}
+use Rattle.error.specs.declared.Class.TheVariants.{BeyondImage, OutOfBounds, OutOfCalendar, OutputLength, RecordsTooLong, NoWindowsTime, ListTooShort, NotApart, NoRecordRefused, NoSuchDesk, DeskFull}
 use Rattle.error.specs.Answer.{Check, Number, class_of, reason_of, check_words, number_words}
 use Rattle.error.proofs.Exactly.{class_some}
 use Rattle.volume.specs.declared.TreeRef.{TreeRef}
@@ -16,7 +18,22 @@ use Rattle.claims.specs.Words.{WordsTellApart}
 
 -- ---- refusals
 
--- the refusal of a class and a reason; classes 1 and 4 have none
+-- the added class of a number, the last of any other
+abbrev added : ℕ → Class
+added class =
+    cond (eqb class 7) BeyondImage
+    (cond (eqb class 8) OutOfBounds
+    (cond (eqb class 9) OutOfCalendar
+    (cond (eqb class 10) OutputLength
+    (cond (eqb class 11) RecordsTooLong
+    (cond (eqb class 12) NoWindowsTime
+    (cond (eqb class 13) ListTooShort
+    (cond (eqb class 14) NotApart
+    (cond (eqb class 15) NoRecordRefused
+    (cond (eqb class 16) NoSuchDesk
+    DeskFull)))))))))
+
+-- the refusal of a class and a reason; classes 1 and 4, and those from 7 up, have none
 abbrev refusal : ℕ → ℕ → Error
 refusal class reason =
     cond (eqb class 1) InvalidGeometry
@@ -24,7 +41,8 @@ refusal class reason =
     (cond (eqb class 3) (Corrupt reason)
     (cond (eqb class 4) UnsupportedFormat
     (cond (eqb class 5) (InvalidName reason)
-    (TooLong reason)))))
+    (cond (eqb class 6) (TooLong reason)
+    (Added (added class)))))))
 
 -- each is the one of its class and its reason
 made_again : (e : Error) → refusal (class_of e) (reason_of e) ≡ e
@@ -34,6 +52,17 @@ made_again (Corrupt n) = refl
 made_again UnsupportedFormat = refl
 made_again (InvalidName n) = refl
 made_again (TooLong n) = refl
+made_again (Added BeyondImage) = refl
+made_again (Added OutOfBounds) = refl
+made_again (Added OutOfCalendar) = refl
+made_again (Added OutputLength) = refl
+made_again (Added RecordsTooLong) = refl
+made_again (Added NoWindowsTime) = refl
+made_again (Added ListTooShort) = refl
+made_again (Added NotApart) = refl
+made_again (Added NoRecordRefused) = refl
+made_again (Added NoSuchDesk) = refl
+made_again (Added DeskFull) = refl
 
 refusals : (a b : Error) → class_of a ≡ class_of b → reason_of a ≡ reason_of b → a ≡ b
 refusals a b c r = sym (made_again a) ∙ ap₂ refusal c r ∙ made_again b

@@ -14,6 +14,7 @@ use Rattle.root.specs.Select.{supported_root}
 use Rattle.claims.specs.Answers.{AnswersIn, RefusesAlone}
 use Rattle.claims.specs.Classes.{root_classes, unit_classes, Classes}
 use Rattle.claims.proofs.Answers.{supported_kept, choice_kept, demand_1}
+use Rattle.claims.proofs.Searches.{search_told}
 
 class_in : {A : Type 0} {cs : List ℕ} {c : Result A Error} → AnswersIn cs c → is_one_of (check_class c) cs ≡ true
 class_in {A} {cs} {c} h = and_left (is_one_of (check_class c) cs) _ h.told
@@ -29,6 +30,7 @@ classes = record {
   root = λ s slot blocks. class_in (demand_1.root s slot blocks);
   choice = λ s slot blocks t slot₂ blocks₂. class_in (choice_kept root_classes refl refl _ _ (supported_in s slot blocks) (supported_in t slot₂ blocks₂));
   page = λ r u k g l b p. class_in (demand_1.page r u k g l b p);
+  search = search_told;
   group = λ key value. class_in (demand_1.group key value Disk);
   slot = λ g s. class_in (demand_1.slot g s);
   unit = λ uuid object unit valid. unit_in _ (demand_1.unit uuid object unit valid);

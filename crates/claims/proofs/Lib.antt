@@ -4,4 +4,7 @@ pub mod Exactly
 pub mod Agreement
 pub mod Cases
 pub mod Words
+pub mod Searches
+pub mod Callers
+pub mod Requests
 pub mod Apart

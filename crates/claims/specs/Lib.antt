@@ -4,3 +4,4 @@ pub mod Exactly
 pub mod Agreement
 pub mod Cases
 pub mod Words
+pub mod Requests

@@ -3,12 +3,14 @@ use mathlib.Core.Path.{◌≡◌, refl, sym, ap, ◌∙◌}
 use mathlib.Core.Bool.{Bool, true, false, cond}
 use mathlib.Core.Logic.{◌↔◌}
 use mathlib.Core.List.{List, [], ◌∷◌, ◌++◌}
-use Prim.Native.Nat.{ℕ}
+use Prim.Native.Nat.{ℕ, ◌≤◌}
 use native.Mathlib.Omega.{arith}
 use Rattle.std.specs.Prelude.{Result, Ok, Err}
 use Rattle.error.specs.declared.Error.{Error}
-use Rattle.error.specs.declared.Error.TheVariants.{InvalidGeometry, InvalidInput, Corrupt, UnsupportedFormat, InvalidName, TooLong}
-use Rattle.error.specs.Answer.{Check, Number, number_check, class_of}
+use Rattle.error.specs.declared.Error.TheVariants.{InvalidGeometry, InvalidInput, Corrupt, UnsupportedFormat, InvalidName, TooLong, Added}
+use Rattle.error.specs.Answer.{Check, Number, number_check, class_number, class_of}
+use Rattle.error.specs.declared.Class.{Class}
+use Rattle.error.specs.declared.Class.TheVariants.{BeyondImage, OutOfBounds, OutOfCalendar, OutputLength, RecordsTooLong, NoWindowsTime, ListTooShort, NotApart, NoRecordRefused, NoSuchDesk, DeskFull}
 use Rattle.error.specs.Demand.{Demand, passing, is_passed, outcome, demands, AllHold}
 
 -- it passes exactly where each test holds
@@ -130,6 +132,20 @@ two_chains (d ∷ ds) es accepted = ap (λ (x : Result _ Error). cond d.test x (
 pub after : {A : Type 0} (accepted : Result A Error) (cs ds : List Demand) → AllHold cs → outcome ds accepted ≡ outcome (cs ++ ds) accepted
 after accepted cs ds h = sym (outcome_holds cs (outcome ds accepted) h) ∙ two_chains cs ds accepted
 
+-- the added classes start at 7
+pub added_above : (c : Class) → 7 ≤ class_number c
+added_above BeyondImage = omega arith
+added_above OutOfBounds = omega arith
+added_above OutOfCalendar = omega arith
+added_above OutputLength = omega arith
+added_above RecordsTooLong = omega arith
+added_above NoWindowsTime = omega arith
+added_above ListTooShort = omega arith
+added_above NotApart = omega arith
+added_above NoRecordRefused = omega arith
+added_above NoSuchDesk = omega arith
+added_above DeskFull = omega arith
+
 -- no refusal has class 0
 pub class_some : (e : Error) → class_of e ≡ 0 → ⊥
 class_some InvalidGeometry p = omega arith
@@ -138,3 +154,4 @@ class_some (Corrupt n) p = omega arith
 class_some UnsupportedFormat p = omega arith
 class_some (InvalidName n) p = omega arith
 class_some (TooLong n) p = omega arith
+class_some (Added c) p = omega (arith, added_above c)

@@ -1,9 +1,25 @@
--- Answers and their numbers (01, "Return classes").
+-- Answers and their numbers (01, "Return classes"; the classes from 7 up are those of 02).
 use Rattle.std.specs.Prelude.{ℕ, Bool, cond, List, [], ◌∷◌, Result, Ok, Err}
 use Rattle.error.specs.declared.Error.{Error}
-use Rattle.error.specs.declared.Error.TheVariants.{InvalidGeometry, InvalidInput, Corrupt, UnsupportedFormat, InvalidName, TooLong}
+use Rattle.error.specs.declared.Error.TheVariants.{InvalidGeometry, InvalidInput, Corrupt, UnsupportedFormat, InvalidName, TooLong, Added}
+use Rattle.error.specs.declared.Class.{Class}
+use Rattle.error.specs.declared.Class.TheVariants.{BeyondImage, OutOfBounds, OutOfCalendar, OutputLength, RecordsTooLong, NoWindowsTime, ListTooShort, NotApart, NoRecordRefused, NoSuchDesk, DeskFull}
 use Rattle.error.specs.declared.Validation.{Validation}
 use Rattle.error.specs.declared.Validation.TheVariants.{Input, Disk}
+
+-- 02: the classes that its tickets add, by their numbers
+abbrev pub class_number : Class → ℕ
+class_number BeyondImage = 7
+class_number OutOfBounds = 8
+class_number OutOfCalendar = 9
+class_number OutputLength = 10
+class_number RecordsTooLong = 11
+class_number NoWindowsTime = 12
+class_number ListTooShort = 13
+class_number NotApart = 14
+class_number NoRecordRefused = 15
+class_number NoSuchDesk = 16
+class_number DeskFull = 17
 
 -- 01, "Return classes": the class of each refusal
 abbrev pub class_of : Error → ℕ
@@ -13,8 +29,9 @@ class_of (Corrupt reason) = 3
 class_of UnsupportedFormat = 4
 class_of (InvalidName reason) = 5
 class_of (TooLong reason) = 6
+class_of (Added class) = class_number class
 
--- 01, "Return classes": its reason; classes 1 and 4 carry reason 0
+-- 01, "Return classes": its reason; classes 1 and 4, and those from 7 up, carry reason 0
 abbrev pub reason_of : Error → ℕ
 reason_of InvalidGeometry = 0
 reason_of (InvalidInput reason) = reason
@@ -22,6 +39,7 @@ reason_of (Corrupt reason) = reason
 reason_of UnsupportedFormat = 0
 reason_of (InvalidName reason) = reason
 reason_of (TooLong reason) = reason
+reason_of (Added class) = 0
 
 -- the answer of a check that gives no value: it passed, or a refusal
 abbrev pub Check : Type 0

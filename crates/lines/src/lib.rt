@@ -18,14 +18,14 @@ use error::Error;
 use root::{Label, Root};
 
 // The string whose length stands at the front.
-fn string(rest: &[u8]) -> &[u8]
+pub fn string(rest: &[u8]) -> &[u8]
     ensures { result.now ≡ string_of rest.now }
 {
     octets::span(rest, 4, 4 + octets::u32_at(rest, 0) as usize)
 }
 
 // What stands behind it.
-fn behind_string(rest: &[u8]) -> &[u8]
+pub fn behind_string(rest: &[u8]) -> &[u8]
     ensures { result.now ≡ behind_string rest.now }
 {
     octets::tail(rest, 4 + octets::u32_at(rest, 0) as usize)

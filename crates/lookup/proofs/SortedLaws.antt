@@ -92,7 +92,7 @@ module _ (part key : List ℕ) (count : ℕ) (sorted : Sorted part count) where
   unfolding offset_of
   offset_next j = rw (add-one j)
 
-  unbroken_all : (n j : ℕ) → j + n ≤ count → unbroken part n (offset_of part j) ≡ true
+  pub unbroken_all : (n j : ℕ) → j + n ≤ count → unbroken part n (offset_of part j) ≡ true
   unfolding unbroken
   unbroken_all zero j l = refl
   unbroken_all (suc n) j l = rw (sorted.whole j (omega arith), offset_next j) (unbroken_all n (j + 1) (omega arith))
@@ -145,7 +145,7 @@ module _ (part key : List ℕ) (count : ℕ) (sorted : Sorted part count) where
       let r = walk_bound count 0 (omega arith) (λ k p. absurd (omega arith)) in
       rw r.2 (answers_last r.0 r.1)
 
-  offsets_are : (k : ℕ) → k < count → get_or (written part count 0) k 0 ≡ offset_of part k
+  pub offsets_are : (k : ℕ) → k < count → get_or (written part count 0) k 0 ≡ offset_of part k
   unfolding offset_of
   offsets_are k l =
       let e : 0 + k ≡ k = omega arith in

@@ -33,7 +33,7 @@ use Rattle.pages.proofs.Accept.{page_exactly}
 use Rattle.pages.proofs.Fields.{Good, page_same}
 
 -- the records of an accepted page
-read_of : (kind : TreeKind) (blocks : ℕ) (page : List ℕ) → (byte_at page 12 ≡ 1) × (byte_at page 14 ≡ 0) ⊎ (byte_at page 12 ≡ 2) × (1 ≤ byte_at page 14) × (byte_at page 14 ≤ 7) → ContentHolds kind blocks page
+pub read_of : (kind : TreeKind) (blocks : ℕ) (page : List ℕ) → (byte_at page 12 ≡ 1) × (byte_at page 14 ≡ 0) ⊎ (byte_at page 12 ≡ 2) × (1 ≤ byte_at page 14) × (byte_at page 14 ≤ 7) → ContentHolds kind blocks page
     → Read (part page 80 (payload_length page)) (count page)
 read_of kind blocks page (inl p) h = (h.leaf p.0).read
 read_of kind blocks page (inr p) h = (h.internal p.0).0.read

@@ -72,7 +72,7 @@ impl Run {
     }
 
     // Sends the lines that wait, up to a place; none follows.
-    // Kept, as in probe: two programs, each with its own struct and messages: a function of both would take what `stream::send` takes.
+    // Kept, as in turns: each has its own struct and messages: a function of both would take what `stream::send` takes.
     fn last(&self, end: usize) -> Option<usize> {
         let lines = octets::span(&self.out, 0, end);
         stream::send(&mut self.rt.stdout(), &mut self.rt.stderr(), lines, WRITING)?;

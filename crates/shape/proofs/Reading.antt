@@ -13,7 +13,7 @@ use Rattle.shape.specs.declared.Item.{Item}
 use Rattle.shape.specs.declared.Fault.{Fault}
 use Rattle.shape.specs.declared.Fault.TheVariants.{Short, Outside}
 use Rattle.shape.specs.Call.{Front, read_item, reads}
-use Rattle.shape.specs.Calls.{items_in, calls, known_front, call_front}
+use Rattle.shape.specs.Calls.{Taken, items_in, known_front, front_by}
 
 here : (items : List Item) (i : ℕ) (d : Item) → i < length items → drop i items ≡ get_or items i d ∷ drop (i + 1) items
 here items i d l = drop-cons items i d l ∙ ap (λ n. get_or items i d ∷ drop n items) (next i)
@@ -37,24 +37,24 @@ unfolding reads
 items_end items i input at l = rw (drop_of_length-le items l)
 
 -- without a byte there is no call
-pub no_call : (input : List ℕ) → None ≡ slice_get input 0 → Err Short ≡ call_front input
-unfolding call_front
-no_call [] e = refl
-no_call (x ∷ xs) e = absurd (none-some x e)
+pub no_call : (rows : List Taken) (input : List ℕ) → None ≡ slice_get input 0 → Err Short ≡ front_by rows input
+unfolding front_by
+no_call rows [] e = refl
+no_call rows (x ∷ xs) e = absurd (none-some x e)
 
 -- the first byte is the call's number
-pub first_call : (input : List ℕ) (call : ℕ) → Some call ≡ slice_get input 0 → call_front input ≡ known_front (items_in call calls) input
-unfolding call_front
-first_call [] call e = absurd (none-some call (sym e))
-first_call (x ∷ xs) call e = rw (ne_eqb (length (x ∷ xs)) 0 (λ e. omega arith)) (ap (λ (n : ℕ). known_front (items_in n calls) (x ∷ xs)) (sym (same_Some call x e)))
+pub first_call : (rows : List Taken) (input : List ℕ) (call : ℕ) → Some call ≡ slice_get input 0 → front_by rows input ≡ known_front (items_in call rows) input
+unfolding front_by
+first_call rows [] call e = absurd (none-some call (sym e))
+first_call rows (x ∷ xs) call e = rw (ne_eqb (length (x ∷ xs)) 0 (λ e. omega arith)) (ap (λ (n : ℕ). known_front (items_in n rows) (x ∷ xs)) (sym (same_Some call x e)))
 
 -- a call without a row is unknown
-pub unknown_call : (got : Option (Bor (List Item))) (input : List ℕ) (call : ℕ) {x : Fault} → Some call ≡ slice_get input 0 → option_copied got ≡ items_in call calls → ok_or got Outside ≡ Err x → Err x ≡ call_front input
-unknown_call (Some r) input call {x} f g h = absurd (let z : ◌≡◌ {A = ℕ} 0 1 = cc in omega arith)
-unknown_call None input call {x} f g h =
+pub unknown_call : (rows : List Taken) (got : Option (Bor (List Item))) (input : List ℕ) (call : ℕ) {x : Fault} → Some call ≡ slice_get input 0 → option_copied got ≡ items_in call rows → ok_or got Outside ≡ Err x → Err x ≡ front_by rows input
+unknown_call rows (Some r) input call {x} f g h = absurd (let z : ◌≡◌ {A = ℕ} 0 1 = cc in omega arith)
+unknown_call rows None input call {x} f g h =
     let same : x ≡ Outside = cc in
-    rw (first_call input call f, sym g, same)
+    rw (first_call rows input call f, sym g, same)
 
 -- another is read
-pub known_call : {got : Option (Bor (List Item))} {items : Bor (List Item)} {r : Front} (input : List ℕ) (call : ℕ) → Some call ≡ slice_get input 0 → option_copied got ≡ items_in call calls → got ≡ Some items → r ≡ reads items.now input 1 → r ≡ call_front input
-known_call {got} {items} {r} input call f g h e = rw (first_call input call f, sym g, h, e)
+pub known_call : {got : Option (Bor (List Item))} {items : Bor (List Item)} {r : Front} (rows : List Taken) (input : List ℕ) (call : ℕ) → Some call ≡ slice_get input 0 → option_copied got ≡ items_in call rows → got ≡ Some items → r ≡ reads items.now input 1 → r ≡ front_by rows input
+known_call {got} {items} {r} rows input call f g h e = rw (first_call rows input call f, sym g, h, e)

@@ -1,5 +1,5 @@
 -- A whole call lies within the input.
-use Prim.Native.Nat.{ℕ, ◌+◌, ◌≤◌, ◌<◌}
+use Prim.Native.Nat.{ℕ, ◌+◌, ◌%◌, ◌≤◌, ◌<◌}
 use mathlib.Core.Path.{◌≡◌, refl}
 use mathlib.Core.Bool.{Bool, true, false, cond}
 use mathlib.Core.List.{List, [], ◌∷◌}
@@ -13,9 +13,9 @@ use Rattle.std.specs.Prelude.{Ok, Err, Option, Some, None}
 use Rattle.shape.specs.declared.Fault.{Fault}
 use Rattle.shape.specs.declared.Fault.TheVariants.{Short, Outside}
 use Rattle.shape.specs.declared.Item.{Item}
-use Rattle.shape.specs.declared.Item.TheVariants.{Number, Text}
-use Rattle.shape.specs.Call.{Front, in_range, then_read, read_bytes, read_number, read_string, read_item, reads}
-use Rattle.shape.specs.Calls.{items_in, calls, known_front, call_front}
+use Rattle.shape.specs.declared.Item.TheVariants.{Number, Text, Units}
+use Rattle.shape.specs.Call.{Front, in_range, then_read, read_bytes, read_number, read_string, read_units, read_item, reads}
+use Rattle.shape.specs.Calls.{items_in, known_front, front_by}
 use Rattle.shape.specs.Within.{CallsWithin}
 
 -- a place lies behind another, and within so many bytes
@@ -55,12 +55,21 @@ allowed false f end p = absurd (apart Outside end p)
 here : (m size end : ℕ) → m ≤ size → ◌≡◌ {A = Front} (Ok m) (Ok end) → Behind m size end
 here m size end l p = let same = same_end m end p in record { on = omega (arith, same); in_it = omega (arith, same, l) }
 
-item_within : (i : Item) (input : List ℕ) (at end : ℕ) → read_item i input at ≡ Ok end → Behind at (length input) end
-unfolding read_number read_string
-item_within (Text least most) input at end p =
+string_within : (least most : ℕ) (input : List ℕ) (at end : ℕ) → read_string least most input at ≡ Ok end → Behind at (length input) end
+unfolding read_string
+string_within least most input at end p =
     step (read_bytes input at 4) (λ start. cond (in_range least most (u32_at input at)) (read_bytes input start (u32_at input at)) (Err Outside)) at (length input) end
     (λ m q. bytes_within input at 4 m q)
     (λ m l q. bytes_within input m (u32_at input at) end (allowed (in_range least most (u32_at input at)) (read_bytes input m (u32_at input at)) end q))
+    p
+
+item_within : (i : Item) (input : List ℕ) (at end : ℕ) → read_item i input at ≡ Ok end → Behind at (length input) end
+unfolding read_number read_units
+item_within (Text least most) input at end p = string_within least most input at end p
+item_within (Units unit most) input at end p =
+    step (read_string 0 most input at) (λ m. cond (eqb (u32_at input at % unit) 0) (Ok m) (Err Outside)) at (length input) end
+    (λ m q. string_within 0 most input at m q)
+    (λ m l q. here m (length input) end l (allowed (eqb (u32_at input at % unit) 0) (Ok m) end q))
     p
 item_within (Number least most) input at end p =
     step (read_bytes input at 8) (λ m. cond (in_range least most (u64_at input at)) (Ok m) (Err Outside)) at (length input) end
@@ -79,14 +88,14 @@ known_within None input end l p = absurd (apart Outside end p)
 known_within (Some items) input end l p = reads_within items input 1 end l p
 
 pub calls_within : CallsWithin
-unfolding call_front
-calls_within input end = go (eqb (length input) 0) refl
+unfolding front_by
+calls_within rows input end = go (eqb (length input) 0) refl
   where
     some : (n : ℕ) → (n ≡ 0 → ⊥) → 1 ≤ n
     some n h = omega (arith, h)
 
-    go : (t : Bool) → eqb (length input) 0 ≡ t → cond t (Err Short) (known_front (items_in (byte_at input 0) calls) input) ≡ Ok end → (0 < end) × (end ≤ length input)
+    go : (t : Bool) → eqb (length input) 0 ≡ t → cond t (Err Short) (known_front (items_in (byte_at input 0) rows) input) ≡ Ok end → (0 < end) × (end ≤ length input)
     go true e p = absurd (apart Short end p)
     go false e p =
-        let b = known_within (items_in (byte_at input 0) calls) input end (some (length input) (eqb-false (length input) 0 e)) p in
+        let b = known_within (items_in (byte_at input 0) rows) input end (some (length input) (eqb-false (length input) 0 e)) p in
         (omega (arith, b.on), b.in_it)

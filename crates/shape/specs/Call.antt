@@ -1,8 +1,8 @@
--- A call on standard input (docs/PROBE.md, "Input"): one byte, its number; then its numbers, each 8 bytes; then its strings, each a length of 4 bytes and the bytes; integers little-endian.
-use Rattle.std.specs.Prelude.{ℕ, ◌+◌, Bool, ◌&&◌, cond, List, [], ◌∷◌, leb, length, Result, Ok, Err}
+-- A call on standard input (docs/PROBE.md, "Input"; docs/PROBE-ADDED.md): one byte, its number; then its numbers, each 8 bytes; then its strings, each a length of 4 bytes and the bytes; integers little-endian.
+use Rattle.std.specs.Prelude.{ℕ, ◌+◌, ◌%◌, Bool, ◌&&◌, cond, List, [], ◌∷◌, eqb, leb, length, Result, Ok, Err}
 use Rattle.octets.specs.Number.{u32_at, u64_at}
 use Rattle.shape.specs.declared.Item.{Item}
-use Rattle.shape.specs.declared.Item.TheVariants.{Number, Text}
+use Rattle.shape.specs.declared.Item.TheVariants.{Number, Text, Units}
 use Rattle.shape.specs.declared.Fault.{Fault}
 use Rattle.shape.specs.declared.Fault.TheVariants.{Short, Outside}
 
@@ -32,10 +32,15 @@ unfoldable pub read_string : ℕ → ℕ → List ℕ → ℕ → Front
 read_string least most input at =
     then_read (read_bytes input at 4) (λ start. cond (in_range least most (u32_at input at)) (read_bytes input start (u32_at input at)) (Err Outside))
 
+-- a string of whole units, and not too many bytes (docs/PROBE-ADDED.md)
+unfoldable pub read_units : ℕ → ℕ → List ℕ → ℕ → Front
+read_units unit most input at = then_read (read_string 0 most input at) (λ end. cond (eqb (u32_at input at % unit) 0) (Ok end) (Err Outside))
+
 -- a number or a string
 abbrev pub read_item : Item → List ℕ → ℕ → Front
 read_item (Number least most) = read_number least most
 read_item (Text least most) = read_string least most
+read_item (Units unit most) = read_units unit most
 
 -- one after the other
 unfoldable pub reads : List Item → List ℕ → ℕ → Front

@@ -3,7 +3,7 @@ use Rattle.std.specs.Prelude.{ℕ, ◌+◌, ◌*◌, ◌^◌, ◌-◌, cond, Lis
 use Rattle.std.specs.Option.{option_map_or}
 use Rattle.octets.specs.Bytes.{byte_at}
 use Rattle.shape.specs.declared.Item.{Item}
-use Rattle.shape.specs.declared.Item.TheVariants.{Number, Text}
+use Rattle.shape.specs.declared.Item.TheVariants.{Number, Text, Units}
 use Rattle.shape.specs.declared.Fault.TheVariants.{Short, Outside}
 use Rattle.shape.specs.Call.{Front, reads}
 
@@ -124,19 +124,28 @@ abbrev pub known_front : Option (List Item) → List ℕ → Front
 known_front None input = Err Outside
 known_front (Some items) input = reads items input 1
 
--- the call at the front of the input, from the byte behind its number on
-unfoldable pub call_front : List ℕ → Front
-call_front input = cond (eqb (length input) 0) (Err Short) (known_front (items_in (byte_at input 0) calls) input)
+-- the call of a table at the front of the input, from the byte behind its number on
+unfoldable pub front_by : List Taken → List ℕ → Front
+front_by rows input = cond (eqb (length input) 0) (Err Short) (known_front (items_in (byte_at input 0) rows) input)
+
+-- a call of probe
+abbrev pub call_front : List ℕ → Front
+call_front input = front_by calls input
 
 -- whether it is a number
 abbrev pub is_number : Item → Bool
 is_number (Number least most) = true
 is_number (Text least most) = false
+is_number (Units unit most) = false
 
 -- how many of them are numbers
 abbrev pub numbers_among : List Item → ℕ
 numbers_among items = count_by is_number items
 
--- where a call's strings start: behind its own byte and eight bytes for each number
+-- where the strings of a table's call start: behind its own byte and eight bytes for each number
+abbrev pub strings_by : List Taken → ℕ → ℕ
+strings_by rows call = 1 + 8 * option_map_or numbers_among (items_in call rows) 0
+
+-- of a call of probe
 unfoldable pub strings_at : ℕ → ℕ
-strings_at call = 1 + 8 * option_map_or numbers_among (items_in call calls) 0
+strings_at call = strings_by calls call

@@ -1,3 +1,4 @@
+pub mod Added
 pub mod Call
 pub mod Calls
 pub mod Within

@@ -1,7 +1,7 @@
 -- Where a call ends, plainly.
 use Rattle.std.specs.Prelude.{ℕ, ◌≤◌, ◌<◌, ◌≡◌, List, length, Ok}
-use Rattle.shape.specs.Calls.{call_front}
+use Rattle.shape.specs.Calls.{Taken, front_by}
 
--- a whole call has a byte at least, and ends within the input: who goes on behind it reads on, and no further than there is input
+-- of any table: a whole call has a byte at least, and ends within the input: who goes on behind it reads on, and no further than there is input
 abbrev pub CallsWithin : Type 0
-CallsWithin = (input : List ℕ) (end : ℕ) → call_front input ≡ Ok end → (0 < end) × (end ≤ length input)
+CallsWithin = (rows : List Taken) (input : List ℕ) (end : ℕ) → front_by rows input ≡ Ok end → (0 < end) × (end ≤ length input)

@@ -1,9 +1,10 @@
-// The numbers and strings of a call, and their limits: where a call on standard input ends.
+// The numbers and strings of a call of probe or probe_added, and their limits: where a call on standard input ends.
 #![tactic(auto)]
 
 ghost use Rattle.std.specs.Prelude.{◌≡◌, ◌≤◌, length, option_copied, IfSome};
-ghost use Rattle.shape.specs.Call.{in_range, read_bytes, read_number, read_string, read_item, reads};
+ghost use Rattle.shape.specs.Call.{in_range, read_bytes, read_number, read_string, read_units, read_item, reads};
 ghost use Rattle.shape.specs.Calls.{items_in, calls, call_front, numbers_among, strings_at};
+ghost use Rattle.shape.specs.Added.{added, added_front, added_strings_at};
 
 // Why no whole call, or no part of it, stands at the front of the input.
 #[derive(Clone, Copy, Debug, PartialEq, Eq)]
@@ -14,13 +15,15 @@ pub enum Fault {
     Outside,
 }
 
-// A number or a string of a call, and the least and the most that the number or the string's length may be.
-// Kept: the two are no struct: each of the constants below would say `Item::Number(Limits { least: 0, most: 255 })`, and a library's range
+// A number or a string of a call, and the least and the most that the number or the string's length may be; or a string of whole units,
+// the bytes of one and the most of all.
+// Kept: the two numbers of a case are no struct: each of the constants below would say `Item::Number(Limits { least: 0, most: 255 })`, and a library's range
 // is not `Copy`.
 #[derive(Clone, Copy)]
 enum Item {
     Number(u64, u64),
     Text(u64, u64),
+    Units(u64, u64),
 }
 
 // Any number of 64 bits.
@@ -63,6 +66,18 @@ const ROOTS: [Item; 38] = [
     UUID, LABEL,
 ];
 
+// The length of an image: 640 blocks.
+const IMAGE: Item = Item::Number(0, 2_621_440);
+
+// Pages of an image, each of them behind its block's number.
+const PAGES: Item = Item::Units(4_104, 80_000);
+
+// Call 60: the count, the kind; of the root whether it has a label, the label's length and 14 numbers more; the image's length; then UUID and label, key, pages.
+const SEARCH: [Item; 23] = [
+    ANY, KIND, FLAG, BYTE, ANY, ANY, ANY, ANY, ANY, ANY, ANY, ANY, ANY, ANY, ANY, ANY, ANY, ANY,
+    IMAGE, UUID, LABEL, STRING, PAGES,
+];
+
 // What a call takes, by the table of docs/PROBE.md; None where it has no row.
 // Kept: the number is a byte of probe's protocol: an enum of calls would be made from it by a match like this one.
 #[tactic(auto, unfolding(crate::specs::Calls::items_in, crate::specs::Calls::calls))]
@@ -103,6 +118,18 @@ fn items_in(call: u8) -> Option<&'static [Item]>
             ANY, ANY, KIND, ANY, BYTE, ANY, ENTRIES, UUID, STRING, STRING,
         ]),
         44 => Some(&[ANY, ANY, ANY, ANY, UUID, STRING]),
+        _ => None,
+    }
+}
+
+// What a call of probe_added takes, by the table of docs/PROBE-ADDED.md; None where it has no row.
+#[tactic(auto, unfolding(crate::specs::Calls::items_in, crate::specs::Added::added))]
+fn added_items(call: u8) -> Option<&'static [Item]>
+    ensures all { option_copied result ≡ items_in call added }
+    ensures few { IfSome result (λ items. length items.now ≤ 38) }
+{
+    match call {
+        60 => Some(&SEARCH),
         _ => None,
     }
 }
@@ -153,6 +180,18 @@ fn read_string(least: u64, most: u64, input: &[u8], at: usize) -> Result<usize, 
     read_bytes(input, start, length as usize)
 }
 
+// A string of whole units.
+#[tactic(auto, unfolding(crate::specs::Call::read_units))]
+fn read_units(unit: u64, most: u64, input: &[u8], at: usize) -> Result<usize, Fault>
+    ensures { result ≡ read_units unit most input.now at }
+{
+    let end = read_string(0, most, input, at)?;
+    if !u64::from(octets::u32_at(input, at)).is_multiple_of(unit) {
+        return Err(Fault::Outside);
+    }
+    Ok(end)
+}
+
 // A number or a string.
 fn read_item(item: Item, input: &[u8], at: usize) -> Result<usize, Fault>
     ensures { result ≡ read_item item input.now at }
@@ -160,6 +199,7 @@ fn read_item(item: Item, input: &[u8], at: usize) -> Result<usize, Fault>
     match item {
         Item::Number(least, most) => read_number(least, most, input, at),
         Item::Text(least, most) => read_string(least, most, input, at),
+        Item::Units(unit, most) => read_units(unit, most, input, at),
     }
 }
 
@@ -187,6 +227,18 @@ pub fn read_call(input: &[u8]) -> Result<usize, Fault>
     reads(items, input, 1)
 }
 
+// The same of probe_added.
+#[tactic(auto, using(crate::proofs::Reading::no_call, crate::proofs::Reading::known_call, crate::proofs::Reading::unknown_call))]
+pub fn read_added(input: &[u8]) -> Result<usize, Fault>
+    ensures { result ≡ added_front input.now }
+{
+    let Some(&call) = input.first() else {
+        return Err(Fault::Short);
+    };
+    let items = added_items(call).ok_or(Fault::Outside)?;
+    reads(items, input, 1)
+}
+
 // How many of the items are numbers.
 fn numbers_among(items: &[Item]) -> usize
     ensures all { result ≡ numbers_among items.now }
@@ -204,4 +256,12 @@ pub fn strings_at(call: u8) -> usize
     ensures { result ≡ strings_at call }
 {
     1 + 8 * items_in(call).map_or(0, numbers_among)
+}
+
+// The same of probe_added.
+#[tactic(auto, unfolding(crate::specs::Added::added_strings_at))]
+pub fn added_strings_at(call: u8) -> usize
+    ensures { result ≡ added_strings_at call }
+{
+    1 + 8 * added_items(call).map_or(0, numbers_among)
 }

@@ -15,7 +15,7 @@ use lib.Seq.{drop-cons, drop-drop}
 use Rattle.octets.specs.Bytes.{Bytes}
 use Rattle.octets.specs.Order.{order, is_greater}
 use Rattle.std.specs.declared.cmp.Ordering.TheVariants.{Greater}
-use Rattle.lookup.specs.Record.{split_record, is_record, size_of, key_of}
+use Rattle.lookup.specs.Record.{split_record, is_record, size_of, key_of, value_of}
 use Rattle.lookup.specs.Floor.{floor_at, answer_of, next_record}
 use Rattle.lookup.specs.Sorted.{offset_of, key_at, Sorted, key_above, IsFloor}
 use Rattle.lookup.specs.declared.Floor.{Floor}
@@ -25,7 +25,7 @@ use Rattle.walk.specs.Found.{Finding, found, nothing, first_of, answer_found, lo
 use Rattle.lookup.proofs.SortedLaws.{answers_same, floor_answers}
 use Rattle.octets.proofs.OrderLaws.{order_same, order_flip, greater_of}
 use Rattle.walk.proofs.Lists.{among_at, increasing_at, Inside, same_entries}
-use Rattle.walk.proofs.Stored.{split_stored, key_stored, after_stored, first_stored}
+use Rattle.walk.proofs.Stored.{split_stored, key_stored, value_stored, after_stored, first_stored}
 
 abbrev pub none : Entry
 none = record { key = []; value = [] }
@@ -35,7 +35,7 @@ abbrev result : List Entry → Option Floor → Finding
 result es f = answer_found (end_to_end es) (answer_of (length (end_to_end es)) (length es) f)
 
 module _ (es : List Entry) (fit : (e : Entry) → Among e es → Fit e) where
-  small_at : (k : ℕ) → k < length es → 4 + length (get_or es k none).key + length (get_or es k none).value ≤ 3072
+  pub small_at : (k : ℕ) → k < length es → 4 + length (get_or es k none).key + length (get_or es k none).value ≤ 3072
   small_at k l = (fit (get_or es k none) (among_at es k none l)).size
 
   drop_laid : (k : ℕ) → k ≤ length es → drop (offset_of (end_to_end es) k) (end_to_end es) ≡ end_to_end (drop k es)
@@ -50,14 +50,17 @@ module _ (es : List Entry) (fit : (e : Entry) → Among e es → Fit e) where
       ap (λ (n : ℕ). drop (o + n) (end_to_end es)) z ∙ sym (drop-drop (4 + length e.key + length e.value) o (end_to_end es)) ∙ ap (drop (4 + length e.key + length e.value)) here ∙ after_stored e r
 
   -- record k is entry k
-  at_laid : (k : ℕ) → k < length es → drop (offset_of (end_to_end es) k) (end_to_end es) ≡ stored (get_or es k none) ++ end_to_end (drop (suc k) es)
+  pub at_laid : (k : ℕ) → k < length es → drop (offset_of (end_to_end es) k) (end_to_end es) ≡ stored (get_or es k none) ++ end_to_end (drop (suc k) es)
   unfolding flat_map
   at_laid k l = drop_laid k (omega arith) ∙ ap end_to_end (drop-cons es k none l)
 
-  key_at_lem : (k : ℕ) → k < length es → key_at (end_to_end es) k ≡ (get_or es k none).key
+  pub key_at_lem : (k : ℕ) → k < length es → key_at (end_to_end es) k ≡ (get_or es k none).key
   key_at_lem k l = ap key_of (at_laid k l) ∙ key_stored (get_or es k none) (end_to_end (drop (suc k) es)) (small_at k l)
 
-  laid_sorted : Increasing [] es → Sorted (end_to_end es) (length es)
+  pub value_at_lem : (k : ℕ) → k < length es → value_of (drop (offset_of (end_to_end es) k) (end_to_end es)) ≡ (get_or es k none).value
+  value_at_lem k l = ap value_of (at_laid k l) ∙ value_stored (get_or es k none) (end_to_end (drop (suc k) es)) (small_at k l)
+
+  pub laid_sorted : Increasing [] es → Sorted (end_to_end es) (length es)
   laid_sorted inc = record {
     whole = λ k l. ap (λ (s : List ℕ). is_record (split_record s)) (at_laid k l) ∙ ap is_record (split_stored (get_or es k none) (end_to_end (drop (suc k) es)) (small_at k l));
     increasing = λ i j l m. ap₂ order (key_at_lem i (omega arith)) (key_at_lem j m) ∙ increasing_at [] es none inc i j l m;

@@ -1,4 +1,4 @@
-//! The calls of `probe`: their shapes, and reading and writing them as bytes.
+//! The calls of `probe` and of `probe_added`: their shapes, and reading and writing them as bytes.
 
 /// What a number of a call may be.
 #[derive(Clone, Copy, Debug, PartialEq, Eq)]
@@ -18,6 +18,8 @@ pub enum Num {
     Zeros,
     /// Entries of a scratch: at most 4,096.
     Entries,
+    /// An image's length: at most 640 blocks.
+    Image,
 }
 
 impl Num {
@@ -35,6 +37,7 @@ impl Num {
             Num::Kind => 4,
             Num::Zeros => 1_000_000,
             Num::Entries => 4_096,
+            Num::Image => LONGEST_IMAGE,
         }
     }
 
@@ -46,11 +49,19 @@ impl Num {
 /// The longest byte string of a call.
 pub const LONGEST: usize = 80_000;
 
+/// The longest image of a call, 640 blocks.
+pub const LONGEST_IMAGE: u64 = 2_621_440;
+
+/// What a page takes in a string of pages: its block number and 4,096 bytes.
+pub const LAID_PAGE: usize = 4_104;
+
 /// What length a byte string of a call has.
 #[derive(Clone, Copy, Debug, PartialEq, Eq)]
 pub enum Text {
     Any,
     Fixed(usize),
+    /// Whole pages, each with its block number.
+    Pages,
 }
 
 impl Text {
@@ -58,6 +69,7 @@ impl Text {
         match self {
             Text::Any => len <= LONGEST,
             Text::Fixed(fixed) => len == fixed,
+            Text::Pages => len <= LONGEST && len % LAID_PAGE == 0,
         }
     }
 }
@@ -73,7 +85,7 @@ const fn shape(no: u8, name: &'static str, numbers: &'static [Num], texts: &'sta
     Shape { no, name, numbers, texts }
 }
 
-use Num::{Any, Byte, Entries, Flag, Kind, Short, Word, Zeros};
+use Num::{Any, Byte, Entries, Flag, Image, Kind, Short, Word, Zeros};
 const ONE: &[Text] = &[Text::Any];
 const TWO: &[Text] = &[Text::Any, Text::Any];
 const UUID_AND_ONE: &[Text] = &[Text::Fixed(16), Text::Any];
@@ -85,7 +97,7 @@ const ROOTS: &[Num] = &[
 ];
 const ROOT_TEXTS: &[Text] = &[Text::Fixed(16), Text::Fixed(255), Text::Fixed(16), Text::Fixed(255)];
 
-/// The table of calls. A call's place is its number less one.
+/// The calls of `probe`. A call's place is its number less one.
 #[rustfmt::skip]
 pub const SHAPES: &[Shape] = &[
     shape(1, "software_extend", &[Word], ONE),
@@ -134,8 +146,36 @@ pub const SHAPES: &[Shape] = &[
     shape(44, "data unit in pieces", &[Any, Any, Any, Any], UUID_AND_ONE),
 ];
 
+/// A count, a kind, a root and an image's length.
+#[rustfmt::skip]
+const SEARCH: &[Num] = &[
+    Any, Kind, Flag, Byte, Any, Any, Any, Any, Any, Any, Any, Any, Any, Any, Any, Any, Any, Any, Image,
+];
+
+/// The calls of `probe_added`, by number.
+#[rustfmt::skip]
+const ADDED_SHAPES: &[Shape] = &[
+    shape(60, "search", SEARCH, &[Text::Fixed(16), Text::Fixed(255), Text::Any, Text::Pages]),
+];
+
+/// The calls of a program, and the first line that it prints.
+pub struct Calls {
+    pub head: &'static str,
+    pub shapes: &'static [Shape],
+}
+
+pub static PROBE: Calls = Calls { head: "probe 1", shapes: SHAPES };
+pub static ADDED: Calls = Calls { head: "probe_added 1", shapes: ADDED_SHAPES };
+
+impl Calls {
+    pub fn shape_of(&self, no: u8) -> Option<&'static Shape> {
+        self.shapes.iter().find(|shape| shape.no == no)
+    }
+}
+
+/// A call's shape, whichever program has it: no number stands for two calls.
 pub fn shape_of(no: u8) -> Option<&'static Shape> {
-    SHAPES.get(usize::from(no).wrapping_sub(1)).filter(|shape| shape.no == no)
+    PROBE.shape_of(no).or_else(|| ADDED.shape_of(no))
 }
 
 /// A call or a body, as the generators make it.
@@ -151,7 +191,7 @@ impl Call {
         Self { no, numbers: numbers.to_vec(), texts: texts.iter().map(|text| text.to_vec()).collect() }
     }
 
-    /// The call as bytes of `probe`'s input.
+    /// The call as bytes of its program's input.
     pub fn write(&self, out: &mut Vec<u8>) {
         out.push(self.no);
         for number in &self.numbers {
@@ -191,10 +231,10 @@ pub fn take_number(input: &mut &[u8]) -> Option<u64> {
     Some(u64::from_le_bytes(take(input, 8)?.try_into().ok()?))
 }
 
-/// The next call of the input; none where `probe` prints `cut`.
-pub fn read<'a>(input: &mut &'a [u8]) -> Option<Lent<'a>> {
+/// The next call of the input; none where the program prints `cut`.
+pub fn read<'a>(calls: &Calls, input: &mut &'a [u8]) -> Option<Lent<'a>> {
     let no = take(input, 1)?[0];
-    let shape = shape_of(no)?;
+    let shape = calls.shape_of(no)?;
     let mut lent = Lent { no, numbers: [0; 34], texts: [&[]; 4] };
     for (number, num) in lent.numbers.iter_mut().zip(shape.numbers) {
         *number = take_number(input).filter(|number| num.allows(*number))?;
@@ -217,11 +257,31 @@ mod tests {
     fn numbers_are_places() {
         for (place, shape) in SHAPES.iter().enumerate() {
             assert_eq!(usize::from(shape.no), place + 1);
+        }
+        for shape in SHAPES.iter().chain(ADDED_SHAPES) {
             assert!(shape.numbers.len() <= 34 && shape.texts.len() <= 4);
         }
         assert_eq!(SHAPES.len(), 44);
         assert_eq!(ROOTS.len(), 34);
+        assert_eq!(SEARCH.len(), 19);
         assert!(shape_of(0).is_none() && shape_of(45).is_none());
+    }
+
+    /// The programs share no call, and `probe_added` has its calls in the order of their numbers, from 60 to 77.
+    #[test]
+    fn two_tables() {
+        let numbers: Vec<u8> = ADDED_SHAPES.iter().map(|shape| shape.no).collect();
+        assert!(numbers.is_sorted() && numbers.iter().all(|no| (60..=77).contains(no)));
+        assert!(numbers.iter().all(|no| PROBE.shape_of(*no).is_none()));
+        assert!(SHAPES.iter().all(|shape| ADDED.shape_of(shape.no).is_none()));
+    }
+
+    #[test]
+    fn whole_pages() {
+        let whole = [0, 4_104, 8_208, 77_976];
+        assert!(whole.iter().all(|len| Text::Pages.allows(*len)));
+        assert!(![1, 4_096, 4_103, 4_105, 82_080].iter().any(|len| Text::Pages.allows(*len)));
+        assert!(Num::Image.allows(2_621_440) && !Num::Image.allows(2_621_441));
     }
 
     #[test]
@@ -230,11 +290,12 @@ mod tests {
         let mut bytes = Vec::new();
         call.write(&mut bytes);
         let mut rest = &bytes[..];
-        let lent = read(&mut rest).unwrap();
+        let lent = read(&PROBE, &mut rest).unwrap();
         assert_eq!((lent.no, lent.numbers[1], lent.texts[0]), (3, u64::MAX, &b"abc"[..]));
         assert!(rest.is_empty());
         for end in 0..bytes.len() {
-            assert!(read(&mut &bytes[..end]).is_none());
+            assert!(read(&PROBE, &mut &bytes[..end]).is_none());
         }
+        assert!(read(&ADDED, &mut &bytes[..]).is_none());
     }
 }

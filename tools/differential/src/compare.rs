@@ -15,6 +15,8 @@ use std::time::{Duration, Instant};
 const BATCH_CALLS: usize = 5_000;
 const BATCH_BODIES: usize = 400;
 const BATCH_BYTES: usize = 3 << 20;
+/// A search has whole pages, so that more bytes go together.
+const BATCH_ADDED_BYTES: usize = 16 << 20;
 /// Differences shown in full for one call, and together.
 const SHOWN_EACH: u64 = 2;
 const SHOWN: u64 = 20;
@@ -38,6 +40,7 @@ impl Settings {
         for pair in words[2..].chunks(2) {
             let kind = match pair[0].as_str() {
                 "--probe" => Kind::Probe,
+                "--probe_added" => Kind::Added,
                 "--readback" => Kind::Readback,
                 other => return Err(format!("compare: {other} is unknown")),
             };
@@ -45,7 +48,7 @@ impl Settings {
             programs.push(Program { kind, path });
         }
         if programs.is_empty() {
-            return Err("compare: name a program, --probe PATH or --readback PATH".into());
+            return Err("compare: name a program, --probe PATH, --probe_added PATH or --readback PATH".into());
         }
         Ok(Self { seed, time, programs })
     }
@@ -72,11 +75,12 @@ impl Batch {
     }
 
     fn is_full(&self, kind: Kind) -> bool {
-        let most = match kind {
-            Kind::Probe => BATCH_CALLS,
-            Kind::Readback => BATCH_BODIES,
+        let (calls, bytes) = match kind {
+            Kind::Probe => (BATCH_CALLS, BATCH_BYTES),
+            Kind::Added => (BATCH_CALLS, BATCH_ADDED_BYTES),
+            Kind::Readback => (BATCH_BODIES, BATCH_BYTES),
         };
-        self.starts.len() >= most || self.bytes.len() >= BATCH_BYTES
+        self.starts.len() >= calls || self.bytes.len() >= bytes
     }
 
     fn input(&self, place: usize) -> &[u8] {
@@ -91,33 +95,41 @@ fn random_batch(r: &mut Random, kind: Kind) -> Batch {
     while !batch.is_full(kind) {
         match kind {
             Kind::Probe => batch.push(kind, &generate::any_call(r)),
+            Kind::Added => generate::some_added(r, &mut |call| batch.push(kind, &call)),
             Kind::Readback => batch.push(kind, &generate::body(r)),
         }
     }
     if r.once_in(4) {
-        batch.push_raw(&match kind {
-            Kind::Probe => generate::broken_call(r),
-            Kind::Readback => generate::broken_body(r),
-        });
+        batch.push_raw(&broken(r, kind));
     }
     batch
+}
+
+/// Bytes that end in `cut`.
+fn broken(r: &mut Random, kind: Kind) -> Vec<u8> {
+    match kind {
+        Kind::Probe => generate::broken_call(r),
+        Kind::Added => generate::broken_added(r),
+        Kind::Readback => generate::broken_body(r),
+    }
 }
 
 /// The batches that are run whatever the seed.
 fn fixed_batches(kind: Kind, seed: u64) -> Vec<Batch> {
     let mut batches = vec![Batch::default()];
     let mut current = Batch::default();
+    let mut each = |call: Call| {
+        current.push(kind, &call);
+        if current.is_full(kind) {
+            batches.push(std::mem::take(&mut current));
+        }
+    };
     match kind {
         Kind::Probe => {
-            let mut each = |call: Call| {
-                current.push(kind, &call);
-                if current.is_full(kind) {
-                    batches.push(std::mem::take(&mut current));
-                }
-            };
             exhaustive::all(&mut each);
             borders::all(&mut each);
         }
+        Kind::Added => generate::added_by_hand(&mut each),
         Kind::Readback => {}
     }
     batches.push(current);
@@ -125,10 +137,7 @@ fn fixed_batches(kind: Kind, seed: u64) -> Vec<Batch> {
     let mut r = Random::new(seed);
     for _ in 0..100 {
         let mut batch = Batch::default();
-        batch.push_raw(&match kind {
-            Kind::Probe => generate::broken_call(&mut r),
-            Kind::Readback => generate::broken_body(&mut r),
-        });
+        batch.push_raw(&broken(&mut r, kind));
         batches.push(batch);
     }
     batches
@@ -167,6 +176,9 @@ impl Run {
         let table = &mut self.table;
         let out = match kind {
             Kind::Probe => oracle::probe(input, |call, said, fields| {
+                table.note(kind, call.no, said, fields);
+            }),
+            Kind::Added => oracle::probe_added(input, |call, said, fields| {
                 table.note(kind, call.no, said, fields);
             }),
             Kind::Readback => readback::readback(input, |body, said, fields| {
@@ -209,7 +221,7 @@ impl Run {
         let no = call.as_ref().map_or(0, |call| match (program.kind, call.no) {
             (Kind::Readback, 34) => 1,
             (Kind::Readback, _) => 2,
-            (Kind::Probe, no) => no,
+            (Kind::Probe | Kind::Added, no) => no,
         });
         match no {
             0 => self.table.cut.differences += 1,

@@ -1,13 +1,15 @@
 //! Calls from a seed: each call with the numbers and strings that its rules turn at.
 
-use crate::call::{Call, Num, SHAPES, Text, shape_of};
+use crate::call::{ADDED, Call, Calls, LAID_PAGE, LONGEST, Num, PROBE, Text};
 use crate::lookups;
 use crate::numbers;
 use crate::pages;
 use crate::random::Random;
 use crate::records::{self, Place};
 use crate::roots;
+use crate::searches;
 use crate::texts;
+use crate::trees;
 
 /// How often each call is made, the calls with most rules most often.
 #[rustfmt::skip]
@@ -19,16 +21,21 @@ const WEIGHTS: &[(u8, u64)] = &[
     (42, 20), (43, 12), (44, 4),
 ];
 
-pub fn any_call(r: &mut Random) -> Call {
-    let sum = WEIGHTS.iter().map(|weight| weight.1).sum();
+fn weighed(r: &mut Random, weights: &[(u8, u64)]) -> u8 {
+    let sum = weights.iter().map(|weight| weight.1).sum();
     let mut left = r.below(sum);
-    for &(no, weight) in WEIGHTS {
+    for &(no, weight) in weights {
         if left < weight {
-            return call(r, no);
+            return no;
         }
         left -= weight;
     }
     unreachable!("the weights add up to more than what is left")
+}
+
+pub fn any_call(r: &mut Random) -> Call {
+    let no = weighed(r, WEIGHTS);
+    call(r, no)
 }
 
 /// A string for a checksum: mostly short, at times a block or what a round of lanes takes, or a unit and more.
@@ -384,19 +391,73 @@ pub fn body(r: &mut Random) -> Call {
     }
 }
 
-/// Bytes that end in `cut`: a call of no table, one outside the limits, or one that ends early.
+/// How often a call of `probe_added` is made.
+const ADDED_WEIGHTS: &[(u8, u64)] = &[(60, 1)];
+
+/// Some calls of `probe_added`: of a search as many as one tree gives.
+pub fn some_added(r: &mut Random, each: &mut dyn FnMut(Call)) {
+    match weighed(r, ADDED_WEIGHTS) {
+        60 => trees::searches(r, each),
+        no => panic!("no call {no}"),
+    }
+}
+
+/// The calls of `probe_added` that are made by hand.
+pub fn added_by_hand(each: &mut dyn FnMut(Call)) {
+    searches::all(each);
+}
+
+/// So many calls of `probe_added` from a seed.
+pub fn added(seed: u64, count: u64, each: &mut dyn FnMut(Call)) {
+    let mut r = Random::new(seed);
+    let mut left = count;
+    while left > 0 {
+        some_added(&mut r, &mut |call| {
+            if left > 0 {
+                left -= 1;
+                each(call);
+            }
+        });
+    }
+}
+
+/// Bytes at which `probe` prints `cut`.
 pub fn broken_call(r: &mut Random) -> Vec<u8> {
-    let mut call = any_call(r);
-    let shape = shape_of(call.no).expect("a call of the table");
+    let call = any_call(r);
+    broken(r, &PROBE, call)
+}
+
+/// Bytes at which `probe_added` prints `cut`.
+pub fn broken_added(r: &mut Random) -> Vec<u8> {
+    let mut last = None;
+    some_added(r, &mut |call| last = Some(call));
+    broken(r, &ADDED, last.expect("some calls"))
+}
+
+/// A length that a byte string of a call may not have.
+fn beyond(r: &mut Random, text: Text) -> usize {
+    match text {
+        Text::Any => LONGEST + 1,
+        Text::Fixed(len) => r.pick(&[0, len - 1, len + 1]),
+        Text::Pages => r.pick(&[1, 4_096, 4_103, 4_105, 8_192, 8_207, 79_999, 80_000, 20 * LAID_PAGE]),
+    }
+}
+
+/// A call that the program doesn't know.
+fn unknown(r: &mut Random, calls: &Calls) -> Vec<u8> {
+    let unknown: Vec<u8> = (1..=255).filter(|no| calls.shape_of(*no).is_none()).collect();
+    let mut bytes = vec![if r.once_in(4) { 0 } else { r.pick(&unknown) }];
+    let more = r.size(0, 30);
+    bytes.extend(r.bytes(more));
+    bytes
+}
+
+/// Bytes that end in `cut`: a call of no table, one outside the limits, or one that ends early.
+fn broken(r: &mut Random, calls: &Calls, mut call: Call) -> Vec<u8> {
+    let shape = calls.shape_of(call.no).expect("a call of the table");
     let mut bytes = Vec::new();
     match r.below(4) {
-        0 => {
-            let first = SHAPES.len() as u64 + 1;
-            bytes.push(if r.once_in(4) { 0 } else { r.from_to(first, 255) as u8 });
-            let more = r.size(0, 30);
-            bytes.extend(r.bytes(more));
-            return bytes;
-        }
+        0 => return unknown(r, calls),
         1 => {
             let limited: Vec<usize> =
                 (0..call.numbers.len()).filter(|&place| shape.numbers[place] != Num::Any).collect();
@@ -415,20 +476,14 @@ pub fn broken_call(r: &mut Random) -> Vec<u8> {
             }
         }
         2 => {
-            let fixed = (0..call.texts.len()).find(|&place| shape.texts[place] != Text::Any);
-            match fixed {
-                Some(place) => {
-                    let len = call.texts[place].len();
-                    call.texts[place].resize(r.pick(&[0, len - 1, len + 1]), 1);
-                    call.write(&mut bytes);
-                    return bytes;
-                }
-                None if !call.texts.is_empty() && r.once_in(4) => {
-                    call.texts[0].resize(80_001, 1);
-                    call.write(&mut bytes);
-                    return bytes;
-                }
-                None => {}
+            let bound = (0..call.texts.len()).filter(|&place| shape.texts[place] != Text::Any || r.once_in(20));
+            let bound: Vec<usize> = bound.collect();
+            if !bound.is_empty() {
+                let place = r.pick(&bound);
+                let len = beyond(r, shape.texts[place]);
+                call.texts[place].resize(len, 1);
+                call.write(&mut bytes);
+                return bytes;
             }
         }
         _ => {}
@@ -458,11 +513,22 @@ mod tests {
     #[test]
     fn calls_are_within_the_limits() {
         let mut r = Random::new(1);
-        for shape in SHAPES {
+        for shape in PROBE.shapes {
             for _ in 0..300 {
                 assert!(call(&mut r, shape.no).within_limits(), "call {}", shape.no);
             }
         }
+        for _ in 0..300 {
+            some_added(&mut r, &mut |call| assert!(call.within_limits(), "call {}", call.no));
+        }
+    }
+
+    /// Every call of `probe_added` is made.
+    #[test]
+    fn no_added_call_is_forgotten() {
+        let made: Vec<u8> = ADDED_WEIGHTS.iter().map(|weight| weight.0).collect();
+        let known: Vec<u8> = ADDED.shapes.iter().map(|shape| shape.no).collect();
+        assert_eq!(made, known);
     }
 
     #[test]
@@ -470,8 +536,10 @@ mod tests {
         let mut r = Random::new(2);
         for _ in 0..3_000 {
             let bytes = broken_call(&mut r);
-            assert!(call::read(&mut &bytes[..]).is_none(), "{bytes:?}");
+            assert!(call::read(&PROBE, &mut &bytes[..]).is_none(), "{bytes:?}");
             assert_eq!(oracle::probe(&bytes, |_, _, _| ()), b"probe 1\n0 cut\n");
+            let bytes = broken_added(&mut r);
+            assert_eq!(oracle::probe_added(&bytes, |_, _, _| ()), b"probe_added 1\n0 cut\n");
             let bytes = broken_body(&mut r);
             assert_eq!(readback::readback(&bytes, |_, _, _| ()), b"readback 1\n0 cut\n");
         }

@@ -1,6 +1,6 @@
 //! Makes an input that shows a difference smaller: shorter strings, more zeros, smaller numbers, fewer calls.
 
-use crate::call::{Call, shape_of};
+use crate::call::{Call, LAID_PAGE, Text, shape_of};
 use crate::program::{Difference, Program, differences, run};
 use crate::records::put;
 use reference::format::open;
@@ -33,7 +33,18 @@ fn checksum_at(no: u8) -> Option<usize> {
     }
 }
 
+/// The string of pages of a call, if it has one.
+fn pages_at(no: u8) -> Option<usize> {
+    shape_of(no)?.texts.iter().position(|text| *text == Text::Pages)
+}
+
 pub fn sealed(mut call: Call) -> Option<Call> {
+    if let Some(place) = pages_at(call.no) {
+        for page in call.texts[place].chunks_exact_mut(LAID_PAGE) {
+            open::seal((&mut page[8..]).try_into().expect("a whole page"), 64);
+        }
+        return Some(call);
+    }
     let at = checksum_at(call.no)?;
     for text in &mut call.texts {
         if let Ok(block) = (&mut text[..]).try_into() {
@@ -46,15 +57,17 @@ pub fn sealed(mut call: Call) -> Option<Call> {
 /// Smaller is shorter, then more zeros, then smaller numbers. A block's checksum doesn't count.
 fn measure(call: &Call) -> (usize, usize, u32, u64) {
     let len = call.texts.iter().map(Vec::len).sum();
+    let pages = pages_at(call.no).is_some();
     let checksum = |place: usize| match checksum_at(call.no) {
         Some(at) => (at..at + 4).contains(&place),
-        None => false,
+        None => pages && (72..76).contains(&(place % LAID_PAGE)),
     };
     let nonzero = |text: &Vec<u8>| text.iter().enumerate().filter(|(at, byte)| **byte != 0 && !checksum(*at)).count();
     let bits = call.numbers.iter().map(|n| 64 - n.leading_zeros()).sum();
     let numbers = call.numbers.iter().copied();
     let bytes = call.texts.iter().flatten().map(|byte| u64::from(*byte));
     let sum = match checksum_at(call.no) {
+        _ if pages => numbers.fold(0, u64::saturating_add),
         Some(_) => numbers.fold(0, u64::saturating_add),
         None => numbers.chain(bytes).fold(0, u64::saturating_add),
     };
@@ -107,11 +120,27 @@ fn smaller_pairs(call: &Call) -> Vec<Call> {
     list
 }
 
+/// Calls with some pages of a string of pages left out: the first or the last ones, or one.
+fn fewer_pages(call: &Call) -> Vec<Call> {
+    let Some(place) = pages_at(call.no) else {
+        return Vec::new();
+    };
+    let count = call.texts[place].len() / LAID_PAGE;
+    let halves = [0..count, count / 2..count, 0..count / 2];
+    let without = |pages: std::ops::Range<usize>| {
+        let mut other = call.clone();
+        other.texts[place].drain(pages.start * LAID_PAGE..pages.end * LAID_PAGE);
+        other
+    };
+    halves.into_iter().chain((0..count).map(|page| page..page + 1)).map(without).collect()
+}
+
 /// Calls with pieces of `size` bytes left out or zeroed.
 fn smaller_texts(call: &Call, size: usize) -> Vec<Call> {
     let mut list = Vec::new();
     for (place, text) in call.texts.iter().enumerate() {
-        if checksum_at(call.no).is_none() || text.len() != 4096 {
+        let whole = checksum_at(call.no).is_some() && text.len() == 4096 || pages_at(call.no) == Some(place);
+        if !whole {
             for start in (0..text.len()).step_by(size) {
                 let mut other = call.clone();
                 other.texts[place].drain(start..(start + size).min(text.len()));
@@ -184,6 +213,7 @@ pub fn smallest(program: &Program, call: Call) -> Option<(Call, Difference)> {
     let mut best = (call, found);
     loop {
         let before = measure(&best.0);
+        take_all(program, &mut best, end, fewer_pages);
         take_all(program, &mut best, end, smaller_pairs);
         take_all(program, &mut best, end, smaller_numbers);
         let mut size = best.0.texts.iter().map(Vec::len).max().unwrap_or(0);

@@ -1,8 +1,10 @@
-//! What `probe` must print: the reference's answers, and 01's where a listed difference applies.
+//! What `probe` and `probe_added` must print: the reference's answers, and 01's where a listed difference applies; for what
+//! the requests add, our own Rust over the reference.
 
-use crate::call::{self, Lent};
+use crate::call::{self, Calls, Lent};
 use crate::listed::{self, Listed};
 use crate::reasons::{class_and_reason, number};
+use crate::search;
 use reference::crc;
 use reference::error::{Error, Result};
 use reference::format::{self, Label, PageView, Root, TreeKind, TreeRef, Validation, open};
@@ -18,7 +20,7 @@ pub struct Said {
 
 const PLAIN: Said = Said { verdict: None, listed: None };
 
-fn said(class: u64, reason: u64) -> Said {
+pub fn said(class: u64, reason: u64) -> Said {
     Said { verdict: Some((class, reason)), listed: None }
 }
 
@@ -41,7 +43,7 @@ pub fn field(out: &mut Vec<u8>, n: u64) {
     digits(out, n);
 }
 
-fn fields(out: &mut Vec<u8>, numbers: &[u64]) {
+pub fn fields(out: &mut Vec<u8>, numbers: &[u64]) {
     numbers.iter().for_each(|&n| field(out, n));
 }
 
@@ -108,7 +110,7 @@ fn given(out: &mut Vec<u8>, result: Result<u64>, reason: u64) -> Said {
 }
 
 /// Where `part` begins in `whole`.
-fn offset(part: &[u8], whole: &[u8]) -> u64 {
+pub fn offset(part: &[u8], whole: &[u8]) -> u64 {
     (part.as_ptr() as usize - whole.as_ptr() as usize) as u64
 }
 
@@ -215,6 +217,7 @@ pub fn reference_answer(call: &Lent, out: &mut Vec<u8>) -> Said {
         12..=21 => volume_answer(call, out),
         22..=32 => record_answer(call, out),
         33..=35 | 41 => root_answer(call, out),
+        60 => search::answer(call, out),
         _ => page_answer(call, out),
     }
 }
@@ -328,23 +331,28 @@ fn decoded_root(out: &mut Vec<u8>, root: &Root) {
     hex(out, bytes);
 }
 
-/// A root of call 41: 17 numbers and two strings.
-fn made_root(n: &[u64], id: &[u8], label: &[u8]) -> Option<Root> {
+/// A root made by hand: 16 numbers and two strings.
+pub fn made_root(n: &[u64], id: &[u8], label: &[u8]) -> Root {
     let bytes = label.try_into().expect("255 label bytes");
-    (n[0] == 1).then(|| Root {
-        label: (n[1] == 1).then(|| open::label(n[2] as u8, bytes)),
+    Root {
+        label: (n[0] == 1).then(|| open::label(n[1] as u8, bytes)),
         uuid: uuid(id),
-        generation: n[3],
-        blocks: n[4],
-        catalog: tree(n[5], n[6]),
-        allocation: tree(n[7], n[8]),
-        cleanup: tree(n[9], n[10]),
-        next_object: n[11],
-        free_blocks: n[12],
-        next_job: n[13],
-        workspace: tree(n[14], n[15]),
-        workspace_cursor: n[16],
-    })
+        generation: n[2],
+        blocks: n[3],
+        catalog: tree(n[4], n[5]),
+        allocation: tree(n[6], n[7]),
+        cleanup: tree(n[8], n[9]),
+        next_object: n[10],
+        free_blocks: n[11],
+        next_job: n[12],
+        workspace: tree(n[13], n[14]),
+        workspace_cursor: n[15],
+    }
+}
+
+/// A root of call 41: whether it is present, then as above.
+fn root_if_present(n: &[u64], id: &[u8], label: &[u8]) -> Option<Root> {
+    (n[0] == 1).then(|| made_root(&n[1..], id, label))
 }
 
 /// 1 or 2 for the root chosen, told by its place in memory.
@@ -380,8 +388,8 @@ fn root_answer(call: &Lent, out: &mut Vec<u8>) -> Said {
             }
         }
         41 => {
-            let first = made_root(&n[..17], t[0], t[1]);
-            let second = made_root(&n[17..], t[2], t[3]);
+            let first = root_if_present(&n[..17], t[0], t[1]);
+            let second = root_if_present(&n[17..], t[2], t[3]);
             let root = format::select_root(first.as_ref(), second.as_ref());
             checked(out, root, 1, 0, |out, root| field(out, chosen(root, &first)))
         }
@@ -498,11 +506,21 @@ pub fn line(out: &mut Vec<u8>, place: u64, answer: impl FnOnce(&mut Vec<u8>) -> 
 }
 
 /// What `probe` prints for `input`; `note` is told each call's answer and its fields as printed.
-pub fn probe(mut input: &[u8], mut note: impl FnMut(&Lent, Said, &[u8])) -> Vec<u8> {
-    let mut out = b"probe 1\n".to_vec();
+pub fn probe(input: &[u8], note: impl FnMut(&Lent, Said, &[u8])) -> Vec<u8> {
+    printed(&call::PROBE, input, note)
+}
+
+/// What `probe_added` prints for `input`.
+pub fn probe_added(input: &[u8], note: impl FnMut(&Lent, Said, &[u8])) -> Vec<u8> {
+    printed(&call::ADDED, input, note)
+}
+
+fn printed(calls: &Calls, mut input: &[u8], mut note: impl FnMut(&Lent, Said, &[u8])) -> Vec<u8> {
+    let mut out = calls.head.as_bytes().to_vec();
+    out.push(b'\n');
     let mut place = 0;
     while !input.is_empty() {
-        let Some(call) = call::read(&mut input) else {
+        let Some(call) = call::read(calls, &mut input) else {
             digits(&mut out, place);
             out.extend_from_slice(b" cut\n");
             return out;

@@ -49,7 +49,7 @@ fn order(records: &mut Vec<Record>, leaf: bool) {
 }
 
 /// The first records that fit a page together.
-fn fitting(records: &mut Vec<Record>) {
+pub fn fitting(records: &mut Vec<Record>) {
     let mut room = 4016usize;
     let fit = records.iter().take_while(|record| {
         let fits = size(record) <= room;
@@ -127,7 +127,7 @@ fn empty_case(r: &mut Random) -> Case {
 
 impl Case {
     /// Encodes with the reference; false if it refuses.
-    fn encode(&mut self, children_total: u64) -> bool {
+    pub fn encode(&mut self, children_total: u64) -> bool {
         let lent: Vec<(&[u8], &[u8])> = self.records.iter().map(|(key, value)| (&key[..], &value[..])).collect();
         let page: &mut [u8; 4096] = (&mut self.page[..]).try_into().expect("a whole page");
         encode_node(
@@ -144,7 +144,7 @@ impl Case {
     }
 
     /// Lays the records into the page as they are, whatever they hold.
-    fn lay(&mut self) {
+    pub fn lay(&mut self) {
         fitting(&mut self.records);
         let mut page = [0; 4096];
         let payload = laid(&self.records);
@@ -248,7 +248,7 @@ fn filled(r: &mut Random, payload: usize) -> Case {
 }
 
 /// Changes the records of a page, and lays them anew.
-fn spoil_records(r: &mut Random, case: &mut Case) {
+pub fn spoil_records(r: &mut Random, case: &mut Case) {
     let len = case.records.len();
     let place = case.place;
     match r.below(8) {
@@ -329,6 +329,17 @@ fn spoil_page(r: &mut Random, case: &mut Case) {
     let number = numbers::field(r, case.blocks, case.generation);
     match r.below(14) {
         0..=2 => spoil_arguments(r, case),
+        13 => {
+            let len = r.pick(&[0, 14, 15, 31, 32, 79, 80, 4_095, 4_097, 8_192]);
+            case.page.resize(len, 0);
+        }
+        turn => spoil_bytes(r, case, number, turn),
+    }
+}
+
+/// Changes a page's bytes, in one of ten ways from 3 on; its length stays.
+pub fn spoil_bytes(r: &mut Random, case: &mut Case, number: u64, way: u64) {
+    match way {
         3..=5 => {
             put(&mut case.page, r.pick(HEADER), number, false);
             if !r.once_in(8) {
@@ -358,13 +369,9 @@ fn spoil_page(r: &mut Random, case: &mut Case) {
             put(&mut case.page, (56, 8), total, false);
             case.seal();
         }
-        12 => {
+        _ => {
             let at = r.size(0, case.page.len().saturating_sub(1));
             put(&mut case.page, (at, 1), r.next(), false);
-        }
-        _ => {
-            let len = r.pick(&[0, 14, 15, 31, 32, 79, 80, 4_095, 4_097, 8_192]);
-            case.page.resize(len, 0);
         }
     }
 }

@@ -1,6 +1,6 @@
-//! Running `probe` or `readback` over a pipe.
+//! Running `probe`, `probe_added` or `readback` over a pipe.
 
-use crate::call::{self, Call};
+use crate::call::{self, Call, Calls};
 use crate::{oracle, readback};
 use std::io::{Read, Write};
 use std::path::{Path, PathBuf};
@@ -15,6 +15,7 @@ const LONGEST_RUN: Duration = Duration::from_secs(120);
 #[derive(Clone, Copy, Debug, PartialEq, Eq)]
 pub enum Kind {
     Probe,
+    Added,
     Readback,
 }
 
@@ -34,14 +35,24 @@ impl Kind {
     pub fn name(self) -> &'static str {
         match self {
             Kind::Probe => "probe",
+            Kind::Added => "probe_added",
             Kind::Readback => "readback",
+        }
+    }
+
+    /// The program's calls; none for `readback`, which has bodies.
+    pub fn calls(self) -> Option<&'static Calls> {
+        match self {
+            Kind::Probe => Some(&call::PROBE),
+            Kind::Added => Some(&call::ADDED),
+            Kind::Readback => None,
         }
     }
 
     /// Writes a call as the program reads it; none if it can't be said to this program.
     pub fn write(self, call: &Call, out: &mut Vec<u8>) -> Option<()> {
         match self {
-            Kind::Probe => Some(call.write(out)),
+            Kind::Probe | Kind::Added => Some(call.write(out)),
             Kind::Readback => readback::write(call, out),
         }
     }
@@ -50,21 +61,20 @@ impl Kind {
     pub fn expected(self, input: &[u8]) -> Vec<u8> {
         match self {
             Kind::Probe => oracle::probe(input, |_, _, _| ()),
+            Kind::Added => oracle::probe_added(input, |_, _, _| ()),
             Kind::Readback => readback::readback(input, |_, _, _| ()),
         }
     }
 
     /// The call at the front of `input`; none if it is cut.
     pub fn call(self, mut input: &[u8]) -> Option<Call> {
-        match self {
-            Kind::Probe => {
-                let lent = call::read(&mut input)?;
-                let shape = call::shape_of(lent.no)?;
-                let numbers = &lent.numbers[..shape.numbers.len()];
-                Some(Call::new(lent.no, numbers, &lent.texts[..shape.texts.len()]))
-            }
-            Kind::Readback => readback::call(input),
-        }
+        let Some(calls) = self.calls() else {
+            return readback::call(input);
+        };
+        let lent = call::read(calls, &mut input)?;
+        let shape = calls.shape_of(lent.no)?;
+        let numbers = &lent.numbers[..shape.numbers.len()];
+        Some(Call::new(lent.no, numbers, &lent.texts[..shape.texts.len()]))
     }
 }
 

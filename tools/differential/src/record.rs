@@ -1,10 +1,12 @@
 //! The recorded answers: a fixed list of calls and bodies that reach every class and reason that the search meets.
 
-use crate::call::{self, Call, SHAPES, shape_of};
+use crate::call::{self, Call, Calls, SHAPES, shape_of};
 use crate::oracle::{self, Said};
 use crate::pages;
 use crate::program::Kind;
 use crate::random::Random;
+use crate::reached;
+use crate::search::{Answer, End};
 use crate::table::hash;
 use crate::{borders, exhaustive, generate, readback, reasons, roots};
 use std::collections::{BTreeMap, BTreeSet};
@@ -13,6 +15,8 @@ use std::path::Path;
 
 pub const SEED: u64 = 1;
 pub const COUNT: u64 = 4_000_000;
+/// Of so many calls of `probe` searched, one of `probe_added` is.
+const ADDED_OF: u64 = 10;
 
 /// What a kept input shows: the call, its class and reason, and a number for what else sets it apart.
 type Shows = (u8, Option<(u64, u64)>, u64);
@@ -20,8 +24,32 @@ type Shows = (u8, Option<(u64, u64)>, u64);
 /// The inputs kept, the smallest for each thing shown.
 struct Kept {
     kind: Kind,
+    /// What other inputs show already.
+    shown: BTreeSet<Shows>,
     inputs: BTreeMap<Shows, Vec<u8>>,
     reached: BTreeMap<u8, BTreeSet<(u64, u64)>>,
+}
+
+/// What a page and its parent must have in common: their refusals are kept at every level.
+const BY_LEVEL: &[&str] = &["unexpected page level", "page identity or generation"];
+
+/// How and where a search ends; of most refusals the level isn't asked.
+fn search_apart(call: &Call, answer: &Answer) -> u64 {
+    let level = answer.level.map_or(8, u64::from);
+    let kind = call.numbers[1];
+    let (end, place) = match answer.end {
+        End::Found(places) => (u64::from(places[3] == 0), kind << 4 | answer.pages.min(2)),
+        End::NotInLeaf => (2, kind << 4 | answer.pages.min(2)),
+        End::BelowFirst => (3, level),
+        End::BeyondImage => (4, level),
+        End::BelowLower => (5, level),
+        End::NotBelowUpper => (6 + u64::from(answer.inherited), level),
+        End::Refused(class, reason) if class == 4 || BY_LEVEL.iter().any(|text| reasons::number(text) == reason) => {
+            (8, level)
+        }
+        End::Refused(..) => (8, 0),
+    };
+    end << 8 | place
 }
 
 /// What sets an answer apart beside its class and reason.
@@ -58,6 +86,7 @@ fn apart(call: &Call, said: Said, fields: &[u8]) -> u64 {
             let len = call.texts[1].len() as u64;
             len.checked_rem(n(3)).map_or(0, |last| 1 + 2 * u64::from(n(3) < len) + u64::from(last != 0))
         }
+        60 => reached::answer_of(call).map_or(0, |answer| search_apart(call, &answer)),
         // A few of those that have neither class nor turn.
         1..=7 | 12..=15 | 31 | 32 => hash(fields) % 8,
         11 => hash(fields) % 64,
@@ -68,7 +97,12 @@ fn apart(call: &Call, said: Said, fields: &[u8]) -> u64 {
 
 impl Kept {
     fn new(kind: Kind) -> Self {
-        Self { kind, inputs: BTreeMap::new(), reached: BTreeMap::new() }
+        Self { kind, shown: BTreeSet::new(), inputs: BTreeMap::new(), reached: BTreeMap::new() }
+    }
+
+    /// Takes what the inputs kept so far show as shown by others: they go.
+    fn leave(&mut self) {
+        self.shown.extend(std::mem::take(&mut self.inputs).into_keys());
     }
 
     /// Notes a call and keeps it if it shows something new, or the same with fewer bytes.
@@ -79,16 +113,15 @@ impl Kept {
         }
         let mut answer = None;
         let mut panicked = false;
-        match self.kind {
-            Kind::Probe => drop(oracle::probe(&bytes, |_, said, fields| {
-                panicked = fields == oracle::PANIC;
-                answer = Some((said, apart(call, said, fields)));
-            })),
-            Kind::Readback => drop(readback::readback(&bytes, |_, said, fields| {
-                panicked = fields == oracle::PANIC;
-                answer = Some((said, apart(call, said, fields)));
-            })),
-        }
+        let mut note = |said: Said, fields: &[u8]| {
+            panicked = fields == oracle::PANIC;
+            answer = Some((said, apart(call, said, fields)));
+        };
+        drop(match self.kind {
+            Kind::Probe => oracle::probe(&bytes, |_, said, fields| note(said, fields)),
+            Kind::Added => oracle::probe_added(&bytes, |_, said, fields| note(said, fields)),
+            Kind::Readback => readback::readback(&bytes, |_, said, fields| note(said, fields)),
+        });
         let Some((said, apart)) = answer else {
             return;
         };
@@ -99,6 +132,9 @@ impl Kept {
             return;
         }
         let shows = (call.no, said.verdict, apart);
+        if self.shown.contains(&shows) {
+            return;
+        }
         let kept = self.inputs.entry(shows).or_insert_with(|| bytes.clone());
         if bytes.len() < kept.len() {
             *kept = bytes;
@@ -179,9 +215,29 @@ fn reached_by_reason(kept: &Kept) -> String {
     text + "\n" + &lacking
 }
 
-fn calls_in(mut input: &[u8]) -> usize {
+/// The search for `probe_added`: what its calls by hand don't show.
+fn search_added(seed: u64, count: u64) -> Kept {
+    let mut kept = Kept::new(Kind::Added);
+    generate::added_by_hand(&mut |call| kept.offer(&call));
+    kept.leave();
+    generate::added(seed, count, &mut |call| kept.offer(&call));
+    kept
+}
+
+/// Inputs at which `probe_added` prints `cut`: one that ends early, a string that isn't whole pages, a call of `probe`.
+fn added_cuts(first: &[u8]) -> [(&'static str, Vec<u8>); 3] {
+    let mut pages = first[..first.len() - 4].to_vec();
+    pages.extend(4_105u32.to_le_bytes());
+    pages.resize(pages.len() + 4_105, 0);
+    let mut other = first.to_vec();
+    Call::new(2, &[], &[b""]).write(&mut other);
+    let short = [first, &first[..first.len() - 1]].concat();
+    [("probe_added-cut", short), ("probe_added-pages-cut", pages), ("probe_added-call-cut", other)]
+}
+
+fn calls_in(calls: &Calls, mut input: &[u8]) -> usize {
     let mut count = 0;
-    while call::read(&mut input).is_some() {
+    while call::read(calls, &mut input).is_some() {
         count += 1;
     }
     count
@@ -214,19 +270,33 @@ pub fn run(dir: &str, seed: u64, count: u64) -> Result<bool, String> {
     let mut calls = concatenated(&fixed, &probe);
     borders::all(&mut |call| call.write(&mut calls));
     let body_bytes = concatenated(b"", &bodies);
+    let added = search_added(seed, count / ADDED_OF);
+    let mut added_fixed = Vec::new();
+    let mut first = 0;
+    generate::added_by_hand(&mut |call| {
+        call.write(&mut added_fixed);
+        first = if first == 0 { added_fixed.len() } else { first };
+    });
+    let added_calls = concatenated(&added_fixed, &added);
     write(Kind::Probe, "probe", &calls)?;
+    write(Kind::Added, "probe_added", &added_calls)?;
     write(Kind::Readback, "readback", &body_bytes)?;
     // A call, and a body, that ends early.
     write(Kind::Probe, "probe-cut", &[2, 0, 0, 0, 0, 2, 5, 0, 0, 0, b'a'])?;
     write(Kind::Readback, "readback-cut", &[1, 0, 1])?;
+    for (name, input) in added_cuts(&added_fixed[..first]) {
+        write(Kind::Added, name, &input)?;
+    }
 
-    let by_call = reached_by_call(&probe) + &reached_by_call(&bodies);
+    let by_call = reached_by_call(&probe) + &reached_by_call(&added) + &reached_by_call(&bodies);
     let by_reason = reached_by_reason(&probe);
     let about = format!(
-        "Recorded answers of probe and readback, made by `differential record`: seed {seed}, {count} calls searched.\n\
-         probe.stdin {} calls, readback.stdin {} bodies, each with the lines that the program must print (.stdout);\n\
-         probe-cut and readback-cut end in `cut`. {} of {} calls have answers here.\n\n{by_call}\n{by_reason}",
-        calls_in(&calls),
+        "Recorded answers of probe, probe_added and readback, made by `differential record`: seed {seed}, {count} calls searched.\n\
+         probe.stdin {} calls, probe_added.stdin {}, readback.stdin {} bodies, each with the lines that the program must\n\
+         print (.stdout); those with cut in their name end in `cut`. {} of {} calls of probe have answers here.\n\n{by_call}\n\
+         {by_reason}",
+        calls_in(&call::PROBE, &calls),
+        calls_in(&call::ADDED, &added_calls),
         bodies.inputs.len(),
         probe.reached.len(),
         SHAPES.len(),

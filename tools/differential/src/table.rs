@@ -1,6 +1,6 @@
 //! The count of what was compared, call by call.
 
-use crate::call::{SHAPES, shape_of};
+use crate::call::{ADDED, Calls, PROBE};
 use crate::oracle::Said;
 use crate::program::Kind;
 use std::collections::{BTreeSet, HashSet};
@@ -19,9 +19,11 @@ pub struct Row {
     pub verdicts: BTreeSet<(u64, u64)>,
 }
 
-/// A row for each call of `probe` and each kind of body of `readback`, and one for inputs that end in `cut`.
+/// A row for each call of `probe` and of `probe_added` and for each kind of body of `readback`, and one for inputs that end in
+/// `cut`.
 pub struct Table {
     pub calls: Vec<Row>,
+    pub added: Vec<Row>,
     pub bodies: Vec<Row>,
     pub cut: Row,
 }
@@ -60,12 +62,15 @@ impl Row {
 impl Table {
     pub fn new() -> Self {
         let rows = |count| (0..count).map(|_| Row::default()).collect();
-        Self { calls: rows(SHAPES.len()), bodies: rows(2), cut: Row::default() }
+        let cut = Row::default();
+        Self { calls: rows(PROBE.shapes.len()), added: rows(ADDED.shapes.len()), bodies: rows(2), cut }
     }
 
     pub fn row(&mut self, kind: Kind, no: u8) -> &mut Row {
+        let place = |calls: &Calls| calls.shapes.iter().position(|shape| shape.no == no).expect("a call of the table");
         match kind {
-            Kind::Probe => &mut self.calls[usize::from(no) - 1],
+            Kind::Probe => &mut self.calls[place(&PROBE)],
+            Kind::Added => &mut self.added[place(&ADDED)],
             Kind::Readback => &mut self.bodies[usize::from(no) - 1],
         }
     }
@@ -75,7 +80,7 @@ impl Table {
     }
 
     fn sum(&self, of: fn(&Row) -> u64) -> u64 {
-        self.calls.iter().chain(&self.bodies).chain([&self.cut]).map(of).sum()
+        self.calls.iter().chain(&self.added).chain(&self.bodies).chain([&self.cut]).map(of).sum()
     }
 
     pub fn differences(&self) -> u64 {
@@ -83,7 +88,7 @@ impl Table {
     }
 
     pub fn calls(&self) -> u64 {
-        self.calls.iter().map(|row| row.cases).sum()
+        self.calls.iter().chain(&self.added).map(|row| row.cases).sum()
     }
 
     pub fn bodies(&self) -> u64 {
@@ -95,10 +100,9 @@ impl Table {
             "{:<32} {:>11} {:>10} {:>9} {:>8} {:>12}",
             "call", "cases", "class 0", "distinct", "listed", "differences"
         );
-        for (place, row) in self.calls.iter().enumerate() {
-            let no = place as u8 + 1;
-            let name = shape_of(no).map_or("", |shape| shape.name);
-            row.print(&format!("{no:>2} {name}"));
+        let shapes = PROBE.shapes.iter().chain(ADDED.shapes);
+        for (shape, row) in shapes.zip(self.calls.iter().chain(&self.added)) {
+            row.print(&format!("{:>2} {}", shape.no, shape.name));
         }
         self.bodies[0].print("readback root");
         self.bodies[1].print("readback page");

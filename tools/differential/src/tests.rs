@@ -3,8 +3,10 @@
 use crate::call::{self, Call};
 use crate::listed::{self, LISTED};
 use crate::random::Random;
-use crate::{borders, oracle, readback};
-use std::collections::HashSet;
+use crate::reached::answer_of;
+use crate::search::End;
+use crate::{borders, oracle, readback, searches, trees};
+use std::collections::{BTreeSet, HashSet};
 use std::panic::{AssertUnwindSafe, catch_unwind};
 
 /// The fields that the oracle prints for one call.
@@ -241,7 +243,7 @@ fn listed_differences_differ() {
     for (call, listed) in smallest.iter().zip(LISTED) {
         let mut input = Vec::new();
         call.write(&mut input);
-        let lent = call::read(&mut &input[..]).unwrap();
+        let lent = call::read(&call::PROBE, &mut &input[..]).unwrap();
         assert_eq!(listed::of(&lent).unwrap().name, listed.name);
         let mut ours = Vec::new();
         oracle::answer(&lent, &mut ours);
@@ -309,4 +311,236 @@ fn borders_put_two_faults_together() {
     for no in (17..=20).chain(22..=29) {
         assert!(pairs(no) > 0, "call {no}");
     }
+}
+
+/// A leaf of a cleanup tree with markers, its records end to end, sealed by hand.
+fn markers(block: u64, generation: u64, objects: &[u8]) -> Vec<u8> {
+    let records: Vec<u8> = objects.iter().flat_map(|object| [9, 0, 0, 0, 3, 0, 0, 0, 0, 0, 0, 0, *object]).collect();
+    laid_page(block, generation, 0, objects.len() as u8, &records)
+}
+
+/// An internal page of a cleanup tree: for each child its first marker, block and generation.
+fn parent(block: u64, generation: u64, level: u8, children: &[(u8, u64, u64)]) -> Vec<u8> {
+    let mut records = Vec::new();
+    for (object, child, born) in children {
+        records.extend([9, 0, 16, 0, 3, 0, 0, 0, 0, 0, 0, 0, *object]);
+        records.extend(child.to_le_bytes().iter().chain(&born.to_le_bytes()));
+    }
+    laid_page(block, generation, level, children.len() as u8, &records)
+}
+
+/// A page as 01 has it, with its block number before it.
+fn laid_page(block: u64, generation: u64, level: u8, count: u8, records: &[u8]) -> Vec<u8> {
+    let mut page = [0; 4096];
+    page[..8].copy_from_slice(b"CFSXPAGE");
+    (page[8], page[12], page[13], page[14]) = (1, if level == 0 { 1 } else { 2 }, 3, level);
+    page[16..24].copy_from_slice(&block.to_le_bytes());
+    page[24..32].copy_from_slice(&generation.to_le_bytes());
+    (page[32], page[34]) = (count, records.len() as u8);
+    page[40..56].fill(7);
+    page[80..80 + records.len()].copy_from_slice(records);
+    let word = reference::crc::crc32c(&page).to_le_bytes();
+    page[64..68].copy_from_slice(&word);
+    [&block.to_le_bytes()[..], &page].concat()
+}
+
+fn marker(object: u8) -> [u8; 9] {
+    [3, 0, 0, 0, 0, 0, 0, 0, object]
+}
+
+/// The fields of a search for a marker in a cleanup tree whose root page is 512, of generation 9; its volume has 2,048 blocks.
+fn searched(count: u64, image: u64, key: &[u8], pages: &[Vec<u8>]) -> String {
+    let root = [0, 0, 9, 2_048, 0, 0, 0, 0, 512, 9, 0, 0, 0, 0, 0, 0];
+    let numbers = [&[count, 3][..], &root, &[image]].concat();
+    let mut input = Vec::new();
+    Call::new(60, &numbers, &[&[7; 16], &[0; 255], key, &pages.concat()]).write(&mut input);
+    let out = String::from_utf8(oracle::probe_added(&input, |_, _, _| ())).unwrap();
+    let fields = out.strip_prefix("probe_added 1\n0 ").and_then(|rest| rest.strip_suffix("\nend 1\n"));
+    fields.expect("one line").into()
+}
+
+const IMAGE: u64 = 520 * 4_096;
+
+#[test]
+fn one_leaf_is_searched() {
+    let leaf = [markers(512, 9, &[2, 4])];
+    let at = 512 * 4_096 + 80 + 13 + 4;
+    assert_eq!(searched(5, IMAGE, &marker(4), &leaf), format!("0 0 1 {at} 9 {} 0 6", at + 9));
+    assert_eq!(searched(5, IMAGE, &marker(3), &leaf), "0 0 0 0 0 0 0 6");
+    assert_eq!(searched(5, IMAGE, b"", &leaf), "0 0 0 0 0 0 0 6");
+    assert_eq!(searched(5, 513 * 4_096, &marker(3), &leaf), "0 0 0 0 0 0 0 6");
+    assert_eq!(searched(5, 513 * 4_096 - 1, &marker(4), &leaf), "7 0 0 0 0 0 0 5");
+    assert_eq!(searched(5, 0, &marker(4), &[]), "7 0 0 0 0 0 0 5");
+    assert_eq!(searched(5, IMAGE, &marker(4), &[]), "3 137 0 0 0 0 0 5");
+    assert_eq!(searched(u64::MAX - 1, IMAGE, &marker(3), &leaf), format!("0 0 0 0 0 0 0 {}", u64::MAX));
+    assert_eq!(searched(u64::MAX, IMAGE, &marker(3), &leaf), format!("0 0 0 0 0 0 0 {}", u64::MAX));
+}
+
+#[test]
+fn two_levels_are_searched() {
+    let tree = [parent(512, 9, 1, &[(2, 513, 8), (6, 514, 9)]), markers(513, 8, &[2, 5])];
+    let at = 513 * 4_096 + 80 + 13 + 4;
+    assert_eq!(searched(0, IMAGE, &marker(5), &tree), format!("0 0 1 {at} 9 {} 0 2", at + 9));
+    assert_eq!(searched(0, IMAGE, &marker(4), &tree), "0 0 0 0 0 0 0 2");
+    // Below the first key; a child that isn't there; a child beyond the image.
+    assert_eq!(searched(0, IMAGE, &marker(1), &tree), "0 0 0 0 0 0 0 1");
+    assert_eq!(searched(0, IMAGE, &marker(6), &tree), "3 137 0 0 0 0 0 1");
+    assert_eq!(searched(0, 514 * 4_096, &marker(6), &tree), "7 0 0 0 0 0 0 1");
+    // A child that is newer than its reference, and one of another level.
+    let newer = [tree[0].clone(), markers(513, 9, &[2, 5])];
+    assert_eq!(searched(0, IMAGE, &marker(5), &newer), "3 149 0 0 0 0 0 1");
+    let other = [tree[0].clone(), parent(513, 8, 1, &[(2, 515, 1), (3, 516, 1)])];
+    assert_eq!(searched(0, IMAGE, &marker(5), &other), "3 145 0 0 0 0 0 1");
+}
+
+#[test]
+fn keys_out_of_bounds_are_found_behind_the_count() {
+    let top = parent(512, 9, 1, &[(2, 513, 8), (6, 514, 9)]);
+    let answer =
+        |objects: &[u8], sought: u8| searched(0, IMAGE, &marker(sought), &[top.clone(), markers(513, 8, objects)]);
+    assert_eq!(answer(&[1, 5], 5), "8 0 0 0 0 0 0 2");
+    assert_eq!(answer(&[2, 6], 2), "8 0 0 0 0 0 0 2");
+    assert_eq!(answer(&[], 3), "0 0 0 0 0 0 0 2");
+    // Below the last record no bound is inherited from the root.
+    let last = |objects: &[u8]| searched(u64::MAX, IMAGE, &marker(9), &[top.clone(), markers(514, 9, objects)]);
+    assert!(last(&[6, 9, 200]).starts_with("0 0 1 "));
+    assert_eq!(last(&[5, 9]), format!("8 0 0 0 0 0 0 {}", u64::MAX));
+}
+
+#[test]
+fn upper_bounds_are_inherited() {
+    let top = parent(512, 9, 2, &[(2, 513, 8), (20, 515, 9)]);
+    let middle = parent(513, 8, 1, &[(2, 516, 8), (6, 514, 7)]);
+    let answer =
+        |objects: &[u8]| searched(0, IMAGE, &marker(9), &[top.clone(), middle.clone(), markers(514, 7, objects)]);
+    assert!(answer(&[6, 9, 19]).starts_with("0 0 1 "));
+    assert_eq!(answer(&[6, 9, 20]), "8 0 0 0 0 0 0 3");
+    assert_eq!(answer(&[9, 21]), "8 0 0 0 0 0 0 3");
+    // The internal page's own keys have bounds too.
+    let middle = parent(513, 8, 1, &[(2, 516, 8), (20, 514, 7)]);
+    assert_eq!(searched(0, IMAGE, &marker(9), &[top.clone(), middle]), "8 0 0 0 0 0 0 2");
+}
+
+/// A number of a block that isn't one of the image is never taken for one by wrapping, in a string or in a search.
+#[test]
+fn blocks_do_not_wrap() {
+    let mut leaf = markers(512, 9, &[2]);
+    leaf[..8].copy_from_slice(&((1u64 << 52) + 512).to_le_bytes());
+    assert_eq!(searched(0, IMAGE, &marker(2), &[leaf]), "3 137 0 0 0 0 0 0");
+    // The later of two pages lies there, and of the last one as much as the image has.
+    let two = [markers(512, 9, &[2]), markers(512, 9, &[4])];
+    assert!(searched(0, IMAGE, &marker(4), &two).starts_with("0 0 1 "));
+    assert!(searched(0, IMAGE, &marker(2), &two).starts_with("0 0 0 "));
+}
+
+/// The searches by hand end in every way, at every level that the way has, and they stay few.
+#[test]
+fn searches_by_hand_reach_every_end() {
+    let mut ends = BTreeSet::new();
+    let mut sum = 0;
+    searches::all(&mut |call| {
+        assert!(call.within_limits());
+        let answer = answer_of(&call).expect("a search");
+        let way = match answer.end {
+            End::Found(_) => "found",
+            End::NotInLeaf => "none in the leaf",
+            End::BelowFirst => "none below the first key",
+            End::BeyondImage => "beyond",
+            End::BelowLower => "lower",
+            End::NotBelowUpper if answer.inherited => "inherited",
+            End::NotBelowUpper => "upper",
+            End::Refused(2, _) => "input",
+            End::Refused(..) => "refused",
+        };
+        ends.insert((way, answer.level));
+        let mut bytes = Vec::new();
+        call.write(&mut bytes);
+        sum += bytes.len();
+    });
+    let levels = |first: u8, last: u8| (first..=last).map(Some);
+    let due = [
+        ("found", levels(0, 0)),
+        ("none in the leaf", levels(0, 0)),
+        ("none below the first key", levels(1, 7)),
+        ("beyond", levels(0, 6)),
+        ("lower", levels(0, 6)),
+        ("upper", levels(0, 6)),
+        ("inherited", levels(0, 5)),
+        ("refused", levels(0, 6)),
+    ];
+    let mut all: BTreeSet<_> =
+        due.into_iter().flat_map(|(way, levels)| levels.map(move |level| (way, level))).collect();
+    all.extend([("beyond", None), ("refused", None), ("input", None)]);
+    assert_eq!(ends, all);
+    assert!(sum < 1_100_000, "{sum} bytes");
+}
+
+/// The searches in the sample end as docs/READING-RULES.md 16.14 says, its other leaves are reached, and in its catalog each
+/// bound is broken once.
+#[test]
+fn searches_in_the_sample() {
+    let mut ends = Vec::new();
+    let mut blocks = Vec::new();
+    searches::sample::all(&mut |call| {
+        let answer = answer_of(&call).expect("a search");
+        if let End::Found([at, ..]) = answer.end {
+            blocks.push(at / 4_096);
+        }
+        ends.push((call.numbers[1], answer.end, answer.pages, answer.inherited));
+    });
+    assert_eq!(ends[0], (1, End::Found([2_191_679, 9, 2_191_688, 128]), 3, false));
+    assert_eq!(ends[1..3], [(1, End::BelowFirst, 2, true), (1, End::NotInLeaf, 3, true)]);
+    assert_eq!((ends[3].1, ends[3].2), (End::BeyondImage, 2));
+    assert_eq!(blocks, [535, 533, 534, 536, 537, 538]);
+    assert_eq!(ends[9], (4, End::BeyondImage, 0, false));
+    let broken = [(End::BelowLower, 2, false), (End::NotBelowUpper, 2, false), (End::NotBelowUpper, 3, true)];
+    assert_eq!(ends[10..], broken.map(|(end, pages, inherited)| (1, end, pages, inherited)));
+}
+
+/// The trees reach the same ends, and found and none in trees of every depth; undamaged they pass but for what isn't there.
+#[test]
+fn trees_reach_every_end() {
+    let mut r = Random::new(5);
+    let mut ends = BTreeSet::new();
+    let mut pages = BTreeSet::new();
+    for _ in 0..2_000 {
+        trees::searches(&mut r, &mut |call| {
+            let answer = answer_of(&call).expect("a search");
+            ends.insert((answer.verdict().0, answer.level));
+            if answer.verdict() == (0, 0) {
+                pages.insert((matches!(answer.end, End::Found(_)), answer.pages));
+            }
+        });
+    }
+    for class in [0, 3, 7, 8] {
+        for level in 0..=if class == 0 { 7 } else { 6 } {
+            assert!(ends.contains(&(class, Some(level))), "class {class} at level {level}");
+        }
+    }
+    assert!([2, 3, 4, 7].iter().all(|class| ends.contains(&(*class, None))));
+    assert!((1..=8).all(|count| pages.contains(&(true, count)) && pages.contains(&(false, count))));
+}
+
+/// In a tree that isn't damaged every record of every leaf is found, and its key and value are at the places told.
+#[test]
+fn whole_trees_are_found() {
+    let mut r = Random::new(6);
+    let mut found = [0; 9];
+    for _ in 0..3_000 {
+        let tree = trees::any(&mut r);
+        let leaves = tree.search.pages.iter().filter(|laid| laid.case.place.leaf);
+        for laid in leaves.clone() {
+            let mut at = laid.at * 4_096 + 80;
+            for (key, value) in &laid.case.records {
+                let call = trees::Search { key: key.clone(), ..tree.search.clone() }.call();
+                let answer = answer_of(&call).expect("a search");
+                let (key, value) = (key.len() as u64, value.len() as u64);
+                let due = End::Found([at + 4, key, at + 4 + key, value]);
+                assert_eq!(answer.end, due, "kind {}, {} blocks", tree.search.kind, tree.search.root[trees::BLOCKS]);
+                found[answer.pages as usize] += 1;
+                at += 4 + key + value;
+            }
+        }
+    }
+    assert!(found[1..].iter().all(|count| *count > 100), "{found:?}");
 }

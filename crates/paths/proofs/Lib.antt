@@ -1,0 +1,9 @@
+pub mod Bounds
+pub mod Records
+pub mod Pages
+pub mod Steps
+pub mod Down
+pub mod Nowhere
+pub mod Exactly
+pub mod Places
+pub mod Parents

@@ -1,0 +1,4 @@
+pub mod Paths
+pub mod Exactly
+pub mod Parents
+pub mod Steps

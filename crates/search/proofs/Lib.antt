@@ -1,0 +1,9 @@
+pub mod Accepted
+pub mod Places
+pub mod Floor
+pub mod Turns
+pub mod Bounds
+pub mod Opened
+pub mod Visits
+pub mod Descents
+pub mod Given

@@ -1,0 +1,4 @@
+pub mod Search
+pub mod Words
+pub mod Inside
+pub mod Given
