@@ -3,6 +3,7 @@
 #![tactic(auto)]
 
 use shape::Fault;
+use std::env::{Env, FillError};
 use turns::{Answers, Words};
 
 // The calls of docs/PROBE.md.
@@ -10,12 +11,21 @@ use turns::{Answers, Words};
 struct Calls;
 
 impl Answers for Calls {
-    ghost use Rattle.shape.specs.Calls.{call_front};
+    ghost use Rattle.shape.specs.Calls.{calls, call_front};
+    ghost use Rattle.shape.proofs.Room.{calls_fit, probe_fits};
+    ghost use Rattle.shape.proofs.Steady.{calls_stand};
+    ghost use Rattle.shape.proofs.Within.{calls_within};
     ghost use Rattle.lines.specs.Line.{call_line};
 
     ghost front = { call_front };
 
     ghost text = { call_line };
+
+    ghost steady = { calls_stand calls };
+
+    ghost within = { λ input n whole. (calls_within calls input n whole).1 };
+
+    ghost fits = { λ input. calls_fit calls input probe_fits };
 
     fn read(&self, input: &[u8]) -> Result<usize, Fault> {
         shape::read_call(input)
@@ -27,11 +37,21 @@ impl Answers for Calls {
 }
 
 fn main(rt: HostRuntime) {
+    // Argument 0 is the program's name.
+    if !matches!(rt.arg(1, &mut []), Err(FillError::NotPresent)) {
+        let _ = rt.eprintln("usage: probe < FILE  (calls on standard input)");
+        return;
+    }
     let words = Words {
         head: b"probe 1\n",
-        usage: "usage: probe < FILE  (calls on standard input)",
         reading: b"probe: reading standard input",
         writing: b"probe: writing standard output",
     };
-    turns::answer_calls(&rt, &mut Calls, words);
+    let _ = turns::answer_calls(
+        &mut rt.stdin(),
+        &mut rt.stdout(),
+        &mut rt.stderr(),
+        &mut Calls,
+        words,
+    );
 }

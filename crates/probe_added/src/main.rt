@@ -3,6 +3,7 @@
 #![tactic(auto)]
 
 use shape::Fault;
+use std::env::{Env, FillError};
 use turns::{Answers, Words};
 
 // The calls of docs/PROBE-ADDED.md, and the memory in which a call's image is made.
@@ -12,12 +13,21 @@ struct Calls {
 }
 
 impl Answers for Calls {
-    ghost use Rattle.shape.specs.Added.{added_front};
+    ghost use Rattle.shape.specs.Added.{added, added_front};
+    ghost use Rattle.shape.proofs.Room.{calls_fit, added_fits};
+    ghost use Rattle.shape.proofs.Steady.{calls_stand};
+    ghost use Rattle.shape.proofs.Within.{calls_within};
     ghost use Rattle.added.specs.Line.{call_line};
 
     ghost front = { added_front };
 
     ghost text = { call_line };
+
+    ghost steady = { calls_stand added };
+
+    ghost within = { λ input n whole. (calls_within added input n whole).1 };
+
+    ghost fits = { λ input. calls_fit added input added_fits };
 
     fn read(&self, input: &[u8]) -> Result<usize, Fault> {
         shape::read_added(input)
@@ -29,14 +39,24 @@ impl Answers for Calls {
 }
 
 fn main(rt: HostRuntime) {
+    // Argument 0 is the program's name.
+    if !matches!(rt.arg(1, &mut []), Err(FillError::NotPresent)) {
+        let _ = rt.eprintln("usage: probe_added < FILE  (calls on standard input)");
+        return;
+    }
     let words = Words {
         head: b"probe_added 1\n",
-        usage: "usage: probe_added < FILE  (calls on standard input)",
         reading: b"probe_added: reading standard input",
         writing: b"probe_added: writing standard output",
     };
     let mut calls = Calls {
         image: [0; added::IMAGE_BYTES],
     };
-    turns::answer_calls(&rt, &mut calls, words);
+    let _ = turns::answer_calls(
+        &mut rt.stdin(),
+        &mut rt.stdout(),
+        &mut rt.stderr(),
+        &mut calls,
+        words,
+    );
 }

@@ -1,2 +1,4 @@
 pub mod Reading
+pub mod Room
+pub mod Steady
 pub mod Within

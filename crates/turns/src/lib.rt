@@ -1,19 +1,32 @@
-// A program that answers calls: they come from standard input through a window, and a line for each goes to standard output.
+// A program that answers calls: they come from an input through a window, and a line for each goes to an output.
+// Kept, as in stream: `input`, `output` and `errors` go one by one, and so do the window and the buffer of lines: a struct that held these
+// lent ends would have to say in each function that it holds the same ones still.
 #![tactic(auto)]
 
-ghost use Rattle.std.specs.Prelude.{◌≡◌, ◌≤◌, ℕ, List};
-ghost use Rattle.octets.specs.Bytes.{Laid};
+ghost use Rattle.std.specs.Prelude.{◌≡◌, ◌≤◌, ◌<◌, ◌-◌, ◌++◌, ℕ, List, length, Option, Ok, Err};
+ghost use Rattle.octets.specs.Bytes.{Laid, part};
 ghost use Rattle.shape.specs.Call.{Front};
+ghost use Rattle.shape.specs.declared.Fault.TheVariants.{Short, Outside};
+ghost use Rattle.report.specs.Line.{cut_line, end_line};
+ghost use Rattle.turns.specs.Turns.{line_of, Answered};
+ghost use Rattle.turns.specs.Inside.{unanswered, shown, Flushed, LastSent, LineTold, ReadOn, SentAndRead, Turned};
 
 use shape::Fault;
-use std::env::{Env, FillError};
+use stand::Stand;
 use std::io;
 
-// Standard input comes through a window of so many bytes.
+mod stand;
+
+// The input comes through a window of so many bytes.
 const WINDOW_BYTES: usize = 262_144;
 
-// What a program makes of a call: where the one at the front of the input ends, and the line of one whose place is given, laid into a lent
-// buffer; each by a definition that the program names.
+// Lines wait for one another in a buffer of twice the most that a line takes.
+const OUT_BYTES: usize = 65_536;
+
+const LINE_BYTES: usize = 32_768;
+
+// What a program makes of a call: where the one at the front of the input ends, and the line of one whose place and bytes are given, laid
+// into a lent buffer; each by a definition that the program names, and of which three laws hold.
 pub trait Answers {
     ghost front: { List ℕ → Front };
 
@@ -24,151 +37,270 @@ pub trait Answers {
 
     fn line(&mut self, out: &mut [u8], at: usize, place: u64, call: &[u8]) -> usize
         ensures { Laid out.old at (text place call.now) out.new result };
+
+    // What stands at the front of an input stands there whatever follows.
+    ghost steady: { (input more : List ℕ) → (front input ≡ Err Short → ⊥) → front (input ++ more) ≡ front input };
+
+    // A call ends within its input.
+    ghost within: { (input : List ℕ) (n : ℕ) → front input ≡ Ok n → n ≤ length input };
+
+    // A window has room for any call.
+    ghost fits: { (input : List ℕ) → front input ≡ Err Short → length input < 262144 };
 }
 
-// A program's own words: its first line, what it says where it is given arguments, and what its two ends are called where one fails.
+// A program's own words: its first line, and what its two ends are called where one fails.
 #[derive(Clone, Copy)]
 pub struct Words<'w> {
     pub head: &'w [u8],
-    pub usage: &'w str,
     pub reading: &'w [u8],
     pub writing: &'w [u8],
 }
 
-// Where the run stands: the next call's place, where it starts in the window and where what is read ends there, and where the next line
-// starts.
-// Kept: `at` and `have` stand beside the window, not a slice of it: memory is fixed, and what is read comes into the same window, which a
-// slice kept from call to call would lend out.
+// How a run ends.
 #[derive(Clone, Copy)]
-struct Stand {
+pub enum Ended {
+    // The input was read to its end, or to what is no whole call, and all lines are written.
+    Whole,
+    // The input can't be read on; the lines of the calls before are written.
+    Unread,
+    // Bytes can't be written, or lines still wait.
+    Unwritten,
+}
+
+// Sends lines that wait.
+fn flush<O: io::Write, E: io::Write>(
+    output: &mut O,
+    errors: &mut E,
+    lines: &[u8],
+    writing: &[u8],
+) -> Result<(), Ended>
+    ensures { Flushed (O.contents output.old) (O.contents output.new) lines.now result }
+{
+    stream::send(output, errors, lines, writing).ok_or(Ended::Unwritten)
+}
+
+// Sends the last of the lines; no call follows.
+fn last<O: io::Write, E: io::Write>(
+    output: &mut O,
+    errors: &mut E,
+    lines: &[u8],
+    writing: &[u8],
+) -> Ended
+    ensures { LastSent (O.contents output.old) (O.contents output.new) lines.now result }
+{
+    match flush(output, errors, lines, writing) {
+        Ok(()) => Ended::Whole,
+        Err(end) => end,
+    }
+}
+
+// Lays the line of a call that isn't answered behind those that wait, and sends them.
+fn cut<O: io::Write, E: io::Write>(
+    output: &mut O,
+    errors: &mut E,
+    out: &mut [u8; OUT_BYTES],
+    used: usize,
     place: u64,
+    writing: &[u8],
+) -> Ended
+    requires { used ≤ 32768 }
+    ensures { LastSent (shown (O.contents output.old) out.old used) (O.contents output.new) (cut_line place) result }
+{
+    let end = report::cut_line(out, used, place);
+    last(output, errors, octets::span(out, 0, end), writing)
+}
+
+// Sends the line of the input's end, where none waits.
+fn finish<O: io::Write, E: io::Write>(
+    output: &mut O,
+    errors: &mut E,
+    out: &mut [u8; OUT_BYTES],
+    place: u64,
+    writing: &[u8],
+) -> Ended
+    ensures { LastSent (O.contents output.old) (O.contents output.new) (end_line place) result }
+{
+    let end = report::end_line(out, 0, place);
+    last(output, errors, octets::span(out, 0, end), writing)
+}
+
+// Lays the line of a call behind those that wait, and makes room for the next.
+fn tell<O: io::Write, E: io::Write, A: Answers>(
+    output: &mut O,
+    errors: &mut E,
+    answers: &mut A,
+    out: &mut [u8; OUT_BYTES],
+    used: usize,
+    place: u64,
+    call: &[u8],
+    writing: &[u8],
+) -> Result<usize, Ended>
+    requires { used ≤ 32768 }
+    ensures { LineTold (shown (O.contents output.old) out.old used) (O.contents output.new) out.new (line_of A.text place call.now) result }
+{
+    let end = answers.line(&mut out[..used + LINE_BYTES], used, place, call);
+    stream::room(output, errors, out, end, writing).ok_or(Ended::Unwritten)
+}
+
+// Brings what is read and not yet answered to the window's front, and reads on behind it.
+fn read_on<R: io::Read>(
+    input: &mut R,
+    window: &mut [u8; WINDOW_BYTES],
     at: usize,
     have: usize,
-    used: usize,
-    ghost in_order: { at ≤ have },
-    ghost in_window: { have ≤ 262144 },
+) -> io::Result<Option<usize>>
+    requires in_order { at ≤ have }
+    requires in_window { have ≤ 262144 }
+    ensures { ReadOn (R.remaining input.old) (R.remaining input.new) (part window.old at (have - at)) window.new result }
+{
+    window.copy_within(at..have, 0);
+    stream::read_behind(input, window, have - at)
 }
 
-// What a program reads from and writes to: the window that calls come through, and the lines that wait.
-#[derive(Drop)]
-struct Run<'a, 'w, A> {
-    rt: &'a HostRuntime,
-    input: io::Stdin,
-    words: Words<'w>,
-    window: [u8; WINDOW_BYTES],
-    out: [u8; 65_536],
-    answers: &'a mut A,
-}
-
-impl<'a, 'w, A: Answers> Run<'a, 'w, A> {
-    // Sends the lines that wait up to a place.
-    fn flush(&self, used: usize) -> Option<()> {
-        let lines = octets::span(&self.out, 0, used);
-        stream::send(
-            &mut self.rt.stdout(),
-            &mut self.rt.stderr(),
-            lines,
-            self.words.writing,
-        )
-    }
-
-    // Sends them where the last line ends; no call follows.
-    fn last(&self, end: usize) -> Option<Stand> {
-        self.flush(end)?;
-        None
-    }
-
-    // Behind a call that was answered.
-    fn behind(&self, s: Stand, length: usize, end: usize) -> Option<Stand> {
-        let used = stream::room(
-            &mut self.rt.stdout(),
-            &mut self.rt.stderr(),
-            &self.out,
-            end,
-            self.words.writing,
-        )?;
-        Some(Stand {
-            place: s.place.saturating_add(1),
-            at: s.at.saturating_add(length).min(s.have),
-            have: s.have,
-            used,
-        })
-    }
-
-    // Sends the lines that wait, and reads on behind a call that isn't whole.
-    fn refilled(&mut self, s: Stand) -> Option<Stand> {
-        self.flush(s.used)?;
-        // What is read and not yet answered comes to the window's front.
-        self.window.copy_within(s.at..s.have, 0);
-        let kept = s.have - s.at;
-        match stream::read_behind(&mut self.input, &mut self.window, kept) {
-            Ok(Some(have)) => Some(Stand {
-                place: s.place,
-                at: 0,
-                have,
-                used: 0,
-            }),
-            Ok(None) if kept == 0 => {
-                let end = report::end_line(&mut self.out, 0, s.place);
-                self.last(end)
-            }
-            Ok(None) => {
-                let end = report::cut_line(&mut self.out, 0, s.place);
-                self.last(end)
-            }
-            Err(why) => {
-                let _ = stream::fail(&mut self.rt.stderr(), self.words.reading, why);
-                None
-            }
-        }
-    }
-
-    // One call, or none where the input has ended or can't be read, the call can't be answered or nothing can be written.
-    fn step(&mut self, s: Stand) -> Option<Stand> {
-        let Run {
-            window,
-            out,
-            answers,
-            ..
-        } = self;
-        let call = &window[s.at..s.have];
-        match answers.read(call) {
-            Ok(length) => {
-                let end = answers.line(out, s.used, s.place, call);
-                self.behind(s, length, end)
-            }
-            Err(Fault::Outside) => {
-                let end = report::cut_line(out, s.used, s.place);
-                self.last(end)
-            }
-            Err(Fault::Short) => self.refilled(s),
+// Sends the lines that wait, and reads on behind what isn't answered; a read that fails is told.
+fn read_more<R: io::Read, O: io::Write, E: io::Write>(
+    input: &mut R,
+    output: &mut O,
+    errors: &mut E,
+    words: Words,
+    window: &mut [u8; WINDOW_BYTES],
+    out: &[u8; OUT_BYTES],
+    s: Stand,
+) -> Result<Option<usize>, Ended>
+    ensures { SentAndRead (R.remaining input.old) (R.remaining input.new) (part window.old s.at (s.have - s.at)) window.new (shown (O.contents output.old) out.now s.used) (O.contents output.new) result }
+{
+    flush(output, errors, octets::span(out, 0, s.used), words.writing)?;
+    match read_on(input, window, s.at, s.have) {
+        Ok(have) => Ok(have),
+        Err(why) => {
+            let _ = stream::fail(errors, words.reading, why);
+            Err(Ended::Unread)
         }
     }
 }
 
-// Answers the calls of standard input, a line for each on standard output.
-// Kept: no clause says what it reads and writes: of the system's two ends nothing is known that a promise could speak of.
-pub fn answer_calls<'a, 'w, A: Answers>(rt: &'a HostRuntime, answers: &'a mut A, words: Words<'w>) {
-    // Argument 0 is the program's name.
-    if !matches!(rt.arg(1, &mut []), Err(FillError::NotPresent)) {
-        let _ = rt.eprintln(words.usage);
-        return;
+// Behind a call that isn't whole: reads on, or ends where nothing more comes.
+fn refilled<R: io::Read, O: io::Write, E: io::Write, A: Answers>(
+    input: &mut R,
+    output: &mut O,
+    errors: &mut E,
+    words: Words,
+    window: &mut [u8; WINDOW_BYTES],
+    out: &mut [u8; OUT_BYTES],
+    s: Stand,
+) -> Result<Stand, Ended>
+    requires { A.front (part window.old s.at (s.have - s.at)) ≡ Err Short }
+    ensures { Turned A.front A.text s.place (unanswered window.old s.at s.have (R.remaining input.old)) (shown (O.contents output.old) out.old s.used) window.new (R.remaining input.new) out.new (O.contents output.new) result }
+{
+    if let Some(have) = read_more(input, output, errors, words, window, out, s)? {
+        return Ok(Stand {
+            place: s.place,
+            at: 0,
+            have,
+            used: 0,
+        });
     }
-    let mut out = [0; 65_536];
-    let start = Stand {
+    if s.at < s.have {
+        return Err(cut(output, errors, out, 0, s.place, words.writing));
+    }
+    Err(finish(output, errors, out, s.place, words.writing))
+}
+
+// Behind a whole call: its line.
+fn answered<O: io::Write, E: io::Write, A: Answers>(
+    output: &mut O,
+    errors: &mut E,
+    answers: &mut A,
+    words: Words,
+    window: &[u8; WINDOW_BYTES],
+    out: &mut [u8; OUT_BYTES],
+    s: Stand,
+    length: usize,
+) -> Result<Stand, Ended>
+    requires { A.front (part window.now s.at (s.have - s.at)) ≡ Ok «length» }
+    ensures { (left : Option (List ℕ)) → Turned A.front A.text s.place (unanswered window.now s.at s.have left) (shown (O.contents output.old) out.old s.used) window.now left out.new (O.contents output.new) result }
+{
+    let next = s.at.saturating_add(length).min(s.have);
+    let call = &window[s.at..next];
+    // A place is a number of 64 bits; no run comes to the last.
+    let place = s.place.checked_add(1).ok_or(Ended::Unwritten)?;
+    let used = tell(
+        output,
+        errors,
+        answers,
+        out,
+        s.used,
+        s.place,
+        call,
+        words.writing,
+    )?;
+    Ok(Stand {
+        place,
+        at: next,
+        have: s.have,
+        used,
+    })
+}
+
+// One call, or a read where the next isn't whole.
+fn step<R: io::Read, O: io::Write, E: io::Write, A: Answers>(
+    input: &mut R,
+    output: &mut O,
+    errors: &mut E,
+    answers: &mut A,
+    words: Words,
+    window: &mut [u8; WINDOW_BYTES],
+    out: &mut [u8; OUT_BYTES],
+    s: Stand,
+) -> Result<Stand, Ended>
+    ensures { Turned A.front A.text s.place (unanswered window.old s.at s.have (R.remaining input.old)) (shown (O.contents output.old) out.old s.used) window.new (R.remaining input.new) out.new (O.contents output.new) result }
+{
+    match answers.read(&window[s.at..s.have]) {
+        Ok(length) => answered(output, errors, answers, words, window, out, s, length),
+        Err(Fault::Outside) => Err(cut(output, errors, out, s.used, s.place, words.writing)),
+        Err(Fault::Short) => {
+            refilled::<R, O, E, A>(input, output, errors, words, window, out, s)
+        }
+    }
+}
+
+// Answers the calls of an input: the first line, a line for each call and the last line go to an output, and what fails is told on a third
+// end. Nothing is promised where bytes can't be written, and where the input's or the output's aren't known, as of the system's.
+pub fn answer_calls<R: io::Read, O: io::Write, E: io::Write, A: Answers>(
+    input: &mut R,
+    output: &mut O,
+    errors: &mut E,
+    answers: &mut A,
+    words: Words,
+) -> Ended
+    ensures { Answered A.front A.text words.entry.head.now (R.remaining input.old) (O.contents output.old) (O.contents output.new) result }
+{
+    if let Err(end) = flush(output, errors, words.head, words.writing) {
+        return end;
+    }
+    let mut window = [0; WINDOW_BYTES];
+    let mut out = [0; OUT_BYTES];
+    let mut stand = Stand {
         place: 0,
         at: 0,
         have: 0,
-        used: octets::put(&mut out, 0, words.head),
+        used: 0,
     };
-    let mut run = Run {
-        rt,
-        input: rt.stdin(),
-        words,
-        window: [0; WINDOW_BYTES],
-        out,
-        answers,
-    };
-    // A proved loop has to end, and nothing says that the input does: no run comes to the last turn.
-    let _ = (0..u64::MAX).try_fold(start, |s, _| run.step(s));
+    // A proved loop has to end, and nothing says that the input does: no run comes to the last turn, behind which lines may wait.
+    for _ in 0..u64::MAX {
+        match step(
+            input,
+            output,
+            errors,
+            answers,
+            words,
+            &mut window,
+            &mut out,
+            stand,
+        ) {
+            Ok(next) => stand = next,
+            Err(end) => return end,
+        }
+    }
+    Ended::Unwritten
 }
