@@ -2,7 +2,7 @@
 use Rattle.std.specs.Prelude.{ℕ, ◌≡◌, ◌↔◌, true, List, Ok}
 use Rattle.utf8.specs.Rfc3629.{Utf8}
 use Rattle.utf8.specs.Inside.{utf8}
-use Rattle.utf8.specs.Rows.{FirstByteTells, CutInOneWay, RowsHold, SameAsStd}
+use Rattle.utf8.specs.Rows.{TestsAreRows, FirstByteTells, CutInOneWay, RowsHold, SameAsStd}
 use Rattle.volume.specs.declared.TreeKind.{TreeKind}
 use Rattle.root.specs.declared.Root.{Root}
 use Rattle.root.specs.Root.{root_decode}
@@ -47,12 +47,13 @@ pub record Request1 : Type 0 where
 
 -- Ticket 2: "UTF-8 by the printed rows"
 pub record Request2 : Type 0 where
-  -- "A text passes as UTF-8 exactly when it is a sequence of these"
+  -- "A text passes as UTF-8 exactly when it is a sequence of these": `utf8` is what `is_utf8` answers (its clause `test`), and its clause `grammar` says the same of the function
   pub passes : (s : List ℕ) → (utf8 s ≡ true) ↔ Utf8 s
-  -- "one printed alternative a case": no two overlap, and a text is a sequence of them in one way
+  -- "one printed alternative a case": each test is its own alternative and no other; no two overlap, and a text is a sequence of them in one way
+  pub cases : TestsAreRows
   pub alone : FirstByteTells
   pub one_way : CutInOneWay
-  -- "RFC 3629's syntax" (its section 3): they are the forms of the numbers U+0000..U+10FFFF without the surrogates, each once and none left out
+  -- "RFC 3629's syntax" (its section 4) by the table of section 3: each number U+0000..U+10FFFF but the surrogates has one character, and nothing else is one
   pub rows : RowsHold
-  -- "no answer changes": it is the UTF-8 that the toolchain's `str::from_utf8` is held to
+  -- "no answer changes": a text passes exactly where the toolchain's promise of `str::from_utf8` has it pass; before this request `is_utf8` was held to the same grammar
   pub std : SameAsStd

@@ -4,11 +4,10 @@ use mathlib.Core.Path.{◌≡◌, refl, sym, ap, subst}
 use mathlib.Core.Bool.{Bool, true, false, ◌&&◌, cond, and-eq-true_iff}
 use mathlib.Core.List.{List, [], ◌∷◌, ◌++◌}
 use native.Mathlib.Omega.{arith}
-use lib.Dec.{leb, eqb, leb-zero}
+use lib.Dec.{leb, leb-zero}
 use borrow.Author.Tests.{le-leb, lt-leb, leb-true, ne_eqb, eqb-true}
 use lib.ListN.{length, take, drop, length-append, length-drop}
 use lib.Seq.{take-append_seam}
-use Rattle.octets.specs.Bytes.{byte_at}
 use Rattle.std.specs.Prelude.{Option, Some, None}
 use Rattle.utf8.specs.Rfc3629.{Byte, Tail, Utf8-char}
 use Rattle.utf8.specs.Rfc3629.Utf8-char.{utf8_1, utf8_2, utf8_3_e0, utf8_3_e1_ec, utf8_3_ed, utf8_3_ee_ef, utf8_4_f0, utf8_4_f1_f3, utf8_4_f4}
@@ -17,10 +16,10 @@ use Rattle.utf8.specs.Inside.{◌from◌to◌, tail, front_len, char_len}
 
 -- ---- from a case of the grammar to the test
 
-within : (lo hi b : ℕ) → Byte lo hi b → b from lo to hi ≡ true
+pub within : (lo hi b : ℕ) → Byte lo hi b → b from lo to hi ≡ true
 within lo hi b p = rw (le-leb lo b p.low, le-leb b hi p.high)
 
-a_tail : {b : ℕ} → Tail b → tail b ≡ true
+pub a_tail : {b : ℕ} → Tail b → tail b ≡ true
 a_tail {b} p = within _ _ b p
 
 -- so many bytes at least
@@ -108,47 +107,47 @@ front_some (utf8_4_f4 {a} {b} {c} {d} e q r u) s =
 pub data Front : List ℕ → ℕ → Type 0 where
   front : {c : List ℕ} → Utf8-char c → (s : List ℕ) → Front (c ++ s) (length c)
 
-byte : (lo hi b : ℕ) → b from lo to hi ≡ true → Byte lo hi b
+pub byte : (lo hi b : ℕ) → b from lo to hi ≡ true → Byte lo hi b
 byte lo hi b e = let h = (and-eq-true_iff (leb lo b) (leb b hi)).0 e in record { low = leb-true lo b h.0; high = leb-true b hi h.1 }
 
-both : (x y : Bool) → (x && y) ≡ true → (x ≡ true) × (y ≡ true)
+pub both : (x y : Bool) → (x && y) ≡ true → (x ≡ true) × (y ≡ true)
 both x y e = (and-eq-true_iff x y).0 e
 
-three : (x y z : Bool) → (x && y && z) ≡ true → (x ≡ true) × (y ≡ true) × (z ≡ true)
+pub three : (x y z : Bool) → (x && y && z) ≡ true → (x ≡ true) × (y ≡ true) × (z ≡ true)
 three x y z e = let h = both (x && y) z e in let g = both x y h.0 in (g.0, g.1, h.1)
 
-four : (x y z w : Bool) → (x && y && z && w) ≡ true → (x ≡ true) × (y ≡ true) × (z ≡ true) × (w ≡ true)
+pub four : (x y z w : Bool) → (x && y && z && w) ≡ true → (x ≡ true) × (y ≡ true) × (z ≡ true) × (w ≡ true)
 four x y z w e = let h = both (x && y && z) w e in let g = three x y z h.0 in (g.0, g.1, g.2, h.1)
 
-is_1 : (a : ℕ) → test.utf8_1 a ≡ true → Utf8-char (a ∷ [])
+abbrev pub is_1 : (a : ℕ) → test.utf8_1 a ≡ true → Utf8-char (a ∷ [])
 is_1 a t = utf8_1 (byte _ _ a t)
 
-is_2 : (a b : ℕ) → test.utf8_2 a b ≡ true → Utf8-char (a ∷ b ∷ [])
+abbrev pub is_2 : (a b : ℕ) → test.utf8_2 a b ≡ true → Utf8-char (a ∷ b ∷ [])
 is_2 a b t = let h = both _ _ t in utf8_2 (byte _ _ a h.0) (byte _ _ b h.1)
 
-is_3_e0 : (a b c : ℕ) → test.utf8_3_e0 a b c ≡ true → Utf8-char (a ∷ b ∷ c ∷ [])
+abbrev pub is_3_e0 : (a b c : ℕ) → test.utf8_3_e0 a b c ≡ true → Utf8-char (a ∷ b ∷ c ∷ [])
 is_3_e0 a b c t = let h = three _ _ _ t in utf8_3_e0 (eqb-true a 0xE0 h.0) (byte _ _ b h.1) (byte _ _ c h.2)
 
-is_3_e1_ec : (a b c : ℕ) → test.utf8_3_e1_ec a b c ≡ true → Utf8-char (a ∷ b ∷ c ∷ [])
+abbrev pub is_3_e1_ec : (a b c : ℕ) → test.utf8_3_e1_ec a b c ≡ true → Utf8-char (a ∷ b ∷ c ∷ [])
 is_3_e1_ec a b c t = let h = three _ _ _ t in utf8_3_e1_ec (byte _ _ a h.0) (byte _ _ b h.1) (byte _ _ c h.2)
 
-is_3_ed : (a b c : ℕ) → test.utf8_3_ed a b c ≡ true → Utf8-char (a ∷ b ∷ c ∷ [])
+abbrev pub is_3_ed : (a b c : ℕ) → test.utf8_3_ed a b c ≡ true → Utf8-char (a ∷ b ∷ c ∷ [])
 is_3_ed a b c t = let h = three _ _ _ t in utf8_3_ed (eqb-true a 0xED h.0) (byte _ _ b h.1) (byte _ _ c h.2)
 
-is_3_ee_ef : (a b c : ℕ) → test.utf8_3_ee_ef a b c ≡ true → Utf8-char (a ∷ b ∷ c ∷ [])
+abbrev pub is_3_ee_ef : (a b c : ℕ) → test.utf8_3_ee_ef a b c ≡ true → Utf8-char (a ∷ b ∷ c ∷ [])
 is_3_ee_ef a b c t = let h = three _ _ _ t in utf8_3_ee_ef (byte _ _ a h.0) (byte _ _ b h.1) (byte _ _ c h.2)
 
-is_4_f0 : (a b c d : ℕ) → test.utf8_4_f0 a b c d ≡ true → Utf8-char (a ∷ b ∷ c ∷ d ∷ [])
+abbrev pub is_4_f0 : (a b c d : ℕ) → test.utf8_4_f0 a b c d ≡ true → Utf8-char (a ∷ b ∷ c ∷ d ∷ [])
 is_4_f0 a b c d t =
     let h = four _ _ _ _ t in
     utf8_4_f0 (eqb-true a 0xF0 h.0) (byte _ _ b h.1) (byte _ _ c h.2) (byte _ _ d h.3)
 
-is_4_f1_f3 : (a b c d : ℕ) → test.utf8_4_f1_f3 a b c d ≡ true → Utf8-char (a ∷ b ∷ c ∷ d ∷ [])
+abbrev pub is_4_f1_f3 : (a b c d : ℕ) → test.utf8_4_f1_f3 a b c d ≡ true → Utf8-char (a ∷ b ∷ c ∷ d ∷ [])
 is_4_f1_f3 a b c d t =
     let h = four _ _ _ _ t in
     utf8_4_f1_f3 (byte _ _ a h.0) (byte _ _ b h.1) (byte _ _ c h.2) (byte _ _ d h.3)
 
-is_4_f4 : (a b c d : ℕ) → test.utf8_4_f4 a b c d ≡ true → Utf8-char (a ∷ b ∷ c ∷ d ∷ [])
+abbrev pub is_4_f4 : (a b c d : ℕ) → test.utf8_4_f4 a b c d ≡ true → Utf8-char (a ∷ b ∷ c ∷ d ∷ [])
 is_4_f4 a b c d t =
     let h = four _ _ _ _ t in
     utf8_4_f4 (eqb-true a 0xF4 h.0) (byte _ _ b h.1) (byte _ _ c h.2) (byte _ _ d h.3)

@@ -1,24 +1,72 @@
 -- What the nine alternatives come to: no two overlap, a text is cut in one way, and they are the forms of section 3's numbers, each once.
 use Prim.Native.Nat.{ℕ, ◌+◌, ◌/◌, ◌%◌, ◌≤◌, ◌<◌}
 use mathlib.Core.Path.{◌≡◌, refl, sym, ap, subst, ◌∙◌}
-use mathlib.Core.Bool.{true, cond, and-eq-true_iff}
+use mathlib.Core.Bool.{Bool, true, cond, and-eq-true_iff}
 use mathlib.Core.List.{List, [], ◌∷◌, ◌++◌}
 use mathlib.Core.Logic.{◌⊎◌, inl, inr}
 use native.Mathlib.Decide.{dec_le}
 use native.Mathlib.Omega.{arith}
-use lib.Dec.{leb}
+use lib.Dec.{leb, eqb}
 use lib.ListN.{length, get_or, take, drop}
 use lib.Seq.{take-append_seam, drop-append_seam}
 use lib.Utf8.{scalar, scalars, encode, encodes, scalar_cases, low_scalar}
-use borrow.Author.Tests.{le-leb, lt-leb, lt-ltb, le-ltb}
+use borrow.Author.Tests.{eq-eqb, le-leb, lt-leb, lt-ltb, le-ltb}
 use Rattle.std.specs.Prelude.{IsUtf8}
 use Rattle.utf8.specs.Rfc3629.{Byte, Tail, Utf8-char, Utf8, number, InRow}
 use Rattle.utf8.specs.Rfc3629.Utf8-char.{utf8_1, utf8_2, utf8_3_e0, utf8_3_e1_ec, utf8_3_ed, utf8_3_ee_ef, utf8_4_f0, utf8_4_f1_f3, utf8_4_f4}
 use Rattle.utf8.specs.Rfc3629.Utf8.{none, more}
 use Rattle.utf8.specs.Rfc3629.InRow.{row_1, row_2, row_3, row_4}
-use Rattle.utf8.specs.Rows.{alternative, FirstByteTells, CutInOneWay, RowsHold, SameAsStd}
+use Rattle.octets.specs.Bytes.{byte_at}
+use Rattle.utf8.specs.Inside as test
+use Rattle.utf8.specs.Rows.{alternative, TestsAreRows, FirstByteTells, CutInOneWay, RowsHold, SameAsStd}
 use Rattle.utf8.specs.Inside.{char_len}
-use Rattle.utf8.proofs.Front.{front_some}
+use Rattle.utf8.proofs.Front.{within, a_tail, is_1, is_2, is_3_e0, is_3_e1_ec, is_3_ed, is_3_ee_ef, is_4_f0, is_4_f1_f3, is_4_f4, front_some}
+
+-- ---- each test is its own alternative
+
+-- the test of an alternative by its place, of the first bytes
+test_of : ℕ → List ℕ → Bool
+test_of k s =
+    let a = byte_at s 0 in
+    let b = byte_at s 1 in
+    let c = byte_at s 2 in
+    let d = byte_at s 3 in
+    cond (eqb k 1) (test.utf8_1 a)
+    (cond (eqb k 2) (test.utf8_2 a b)
+    (cond (eqb k 3) (test.utf8_3_e0 a b c)
+    (cond (eqb k 4) (test.utf8_3_e1_ec a b c)
+    (cond (eqb k 5) (test.utf8_3_ed a b c)
+    (cond (eqb k 6) (test.utf8_3_ee_ef a b c)
+    (cond (eqb k 7) (test.utf8_4_f0 a b c d) (cond (eqb k 8) (test.utf8_4_f1_f3 a b c d) (test.utf8_4_f4 a b c d))))))))
+
+own : {c : List ℕ} (x : Utf8-char c) → test_of (alternative x) c ≡ true
+unfolding test_of
+own (utf8_1 {a} p) = within _ _ a p
+own (utf8_2 {a} p q) = rw (within _ _ a p, a_tail q)
+own (utf8_3_e0 {a} {b} e q r) = rw (eq-eqb a _ e, within _ _ b q, a_tail r)
+own (utf8_3_e1_ec {a} p q r) = rw (within _ _ a p, a_tail q, a_tail r)
+own (utf8_3_ed {a} {b} e q r) = rw (eq-eqb a _ e, within _ _ b q, a_tail r)
+own (utf8_3_ee_ef {a} p q r) = rw (within _ _ a p, a_tail q, a_tail r)
+own (utf8_4_f0 {a} {b} e q r u) = rw (eq-eqb a _ e, within _ _ b q, a_tail r, a_tail u)
+own (utf8_4_f1_f3 {a} p q r u) = rw (within _ _ a p, a_tail q, a_tail r, a_tail u)
+own (utf8_4_f4 {a} {b} e q r u) = rw (eq-eqb a _ e, within _ _ b q, a_tail r, a_tail u)
+
+back : (k : ℕ) (c : List ℕ) → (x : Utf8-char c) × (alternative x ≡ k) → test_of k c ≡ true
+back k c h = subst (λ (n : ℕ). test_of n c ≡ true) h.1 (own h.0)
+
+pub tests_are_rows : TestsAreRows
+unfolding test_of
+tests_are_rows = record {
+  row_1 = λ a. (λ t. (is_1 a t, refl), back 1 (a ∷ []));
+  row_2 = λ a b. (λ t. (is_2 a b t, refl), back 2 (a ∷ b ∷ []));
+  row_3 = λ a b c. (λ t. (is_3_e0 a b c t, refl), back 3 (a ∷ b ∷ c ∷ []));
+  row_4 = λ a b c. (λ t. (is_3_e1_ec a b c t, refl), back 4 (a ∷ b ∷ c ∷ []));
+  row_5 = λ a b c. (λ t. (is_3_ed a b c t, refl), back 5 (a ∷ b ∷ c ∷ []));
+  row_6 = λ a b c. (λ t. (is_3_ee_ef a b c t, refl), back 6 (a ∷ b ∷ c ∷ []));
+  row_7 = λ a b c d. (λ t. (is_4_f0 a b c d t, refl), back 7 (a ∷ b ∷ c ∷ d ∷ []));
+  row_8 = λ a b c d. (λ t. (is_4_f1_f3 a b c d t, refl), back 8 (a ∷ b ∷ c ∷ d ∷ []));
+  row_9 = λ a b c d. (λ t. (is_4_f4 a b c d t, refl), back 9 (a ∷ b ∷ c ∷ d ∷ []));
+}
 
 -- ---- no two overlap
 

@@ -1,12 +1,12 @@
--- What computes, for the chains of tests in the crates above, and what private functions promise: the same nine cases as in
--- specs/Rfc3629, as tests by the same names. Nobody has to believe it: `is_utf8` promises both, and `utf8_is_grammar` of proofs/Grammar
--- says that the test is the grammar.
+-- What computes, for the chains of tests in the crates above, and what private functions promise: the nine cases of specs/Rfc3629 as tests,
+-- by the same names. Nobody has to believe it: `is_utf8` and `is_plain` promise both forms, and `utf8_is_grammar` (proofs/Grammar),
+-- `plain_is_characters` (proofs/Plain) and `TestsAreRows` (specs/Rows) say that they are the same.
 use Rattle.std.specs.Prelude.{ℕ, zero, suc, Bool, true, false, not, ◌&&◌, ◌||◌, cond, List, Option, Some, None, leb, eqb, length, take, drop}
 use Rattle.octets.specs.Bytes.{byte_at}
 use Rattle.utf8.specs.Rfc3629.{number}
 
 infix 40 ◌from◌to◌
--- the form %xlo-hi: a byte from lo to hi
+-- the form %xlo-hi: a number from lo to hi, both counted
 abbrev pub ◌from◌to◌ : ℕ → ℕ → ℕ → Bool
 b from lo to hi = leb lo b && leb b hi
 
@@ -78,7 +78,7 @@ abbrev pub turn : (List ℕ → Reading) → List ℕ → Option ℕ → Reading
 turn go s (Some n) = char (number (take n s)) (go (drop n s))
 turn go s None = cond (eqb (length s) 0) end bad
 
--- so many turns at the most
+-- so many turns at the most; `read` has enough, since each character has a byte
 abbrev pub turns : ℕ → List ℕ → Reading
 turns zero s = end
 turns (suc k) s = turn (turns k) s (char_len s)
@@ -97,7 +97,7 @@ ends (char p r) = ends r
 unfoldable pub utf8 : List ℕ → Bool
 utf8 s = ends (read s)
 
--- whether a label may hold the character of this number: not `/`, not U+0000..U+001F, not U+007F..U+009F
+-- 01, section 3: whether a label may hold the character of this number: not `/`, not U+0000..U+001F, not U+007F..U+009F
 abbrev pub allowed : ℕ → Bool
 allowed p = not (eqb p 0x2F || p from 0x0000 to 0x001F || p from 0x007F to 0x009F)
 

@@ -1,5 +1,6 @@
 -- RFC 3629, "UTF-8, a transformation format of ISO 10646". Section 4 has the syntax: one case here for each printed alternative,
--- in the order of the print and by the names that the code has. Section 3 has the number of a character.
+-- in the order of the print and by the names that the code has (UTF8-tail first and UTF8-octets last, as they are used). Section 3 has the
+-- number of a character.
 use Rattle.std.specs.Prelude.{ℕ, ◌+◌, ◌*◌, ◌%◌, ◌^◌, ◌≤◌, ◌≡◌, List, [], ◌∷◌, ◌++◌}
 
 -- section 4, the form %xlo-hi: a byte from lo to hi
@@ -33,6 +34,7 @@ pub data Utf8-char : List ℕ → Type 0 where
   utf8_4_f4 : {a b c d : ℕ} → a ≡ 0xF4 → Byte 0x80 0x8F b → Tail c → Tail d → Utf8-char (a ∷ b ∷ c ∷ d ∷ [])
 
 -- section 4:  UTF8-octets = *( UTF8-char )
+-- (any number of characters, none too)
 pub data Utf8 : List ℕ → Type 0 where
   none : Utf8 []
   more : {c s : List ℕ} → Utf8-char c → Utf8 s → Utf8 (c ++ s)

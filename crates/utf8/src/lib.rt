@@ -117,8 +117,8 @@ fn behind_ascii(bytes: &[u8]) -> &[u8]
     rest
 }
 
-// Kept: not the library's `str::from_utf8`: the customer's second request has the rows that RFC 3629 prints ticked one by one in this code.
 // Whether the bytes are UTF-8: a sequence of the nine alternatives that RFC 3629 prints.
+// Kept: not the library's `str::from_utf8`: the customer's second request has the rows that RFC 3629 prints ticked one by one in this code.
 pub fn is_utf8(bytes: &[u8]) -> bool
     ensures grammar { IsTrue result ↔ Utf8 bytes.now }
     ensures test { result ≡ utf8 bytes.now }
