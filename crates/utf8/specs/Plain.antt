@@ -2,7 +2,7 @@
 use Rattle.std.specs.Prelude.{ℕ, ◌≤◌, ◌≡◌, List, ◌++◌}
 use Rattle.utf8.specs.Rfc3629.{Utf8-char, number}
 
--- bytes hold the character of this number: as far as they can be cut into characters from the front, it is one of these
+-- RFC 3629, sections 4 and 3: bytes hold the character of this number; as far as they can be cut into characters from the front, it is one of these
 pub data HasCharacter : ℕ → List ℕ → Type 0 where
   here : {c : List ℕ} (s : List ℕ) → Utf8-char c → HasCharacter (number c) (c ++ s)
   later : {p : ℕ} {c s : List ℕ} → Utf8-char c → HasCharacter p s → HasCharacter p (c ++ s)
