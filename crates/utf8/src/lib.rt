@@ -84,6 +84,7 @@ fn utf8_4_f4(a: &u8, b: &u8, c: &u8, d: &u8) -> bool
     *a == 0xF4 && is_from(b, 0x80, 0x8F) && is_tail(c) && is_tail(d)
 }
 
+// UTF8-char   = UTF8-1 / UTF8-2 / UTF8-3 / UTF8-4
 // How many bytes the character at the front has, a case for each printed alternative; none where none starts there.
 // Kept: inlined by a hint: without it the loops below call it, which takes up to three times as long.
 #[inline(always)]
@@ -118,6 +119,7 @@ fn behind_ascii(bytes: &[u8]) -> &[u8]
     rest
 }
 
+// UTF8-octets = *( UTF8-char )
 // Whether the bytes are UTF-8: a sequence of the nine alternatives that RFC 3629 prints.
 // Kept: not the library's `str::from_utf8`: the customer's second request has the rows that RFC 3629 prints ticked one by one in this code.
 pub fn is_utf8(bytes: &[u8]) -> bool

@@ -563,7 +563,8 @@ fn recorded_utf8_cases() {
     for line in cases {
         let words: Vec<&str> = line.split(' ').collect();
         let digits = words[0].strip_prefix('x').unwrap();
-        let bytes: Vec<u8> = (0..digits.len()).step_by(2).map(|i| u8::from_str_radix(&digits[i..i + 2], 16).unwrap()).collect();
+        let byte = |at| u8::from_str_radix(&digits[at..at + 2], 16).unwrap();
+        let bytes: Vec<u8> = (0..digits.len()).step_by(2).map(byte).collect();
         let answer = answer_to_text(&bytes);
         assert_eq!(words[1..], [(answer & 1).to_string(), (answer >> 1).to_string()], "{line}");
     }
