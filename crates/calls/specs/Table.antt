@@ -7,7 +7,7 @@ use Rattle.octets.specs.Order.{order, order_words}
 use Rattle.octets.specs.Reads.{read_of}
 use Rattle.crc.specs.Crc.{extend, crc32c, crc32c_with_zero}
 use Rattle.crc.specs.DataUnit.{data_unit_crc}
-use Rattle.utf8.specs.Reading.{utf8}
+use Rattle.utf8.specs.Inside.{utf8}
 use Rattle.volume.specs.Blocks.{is_bank_root, is_bank_block, is_nonreserved_block}
 use Rattle.volume.specs.Groups.{reserved_group_blocks, allocation_group_count}
 use Rattle.volume.specs.References.{tree_kind_of, validate_tree_ref, validate_page_ref, validate_root_slot}

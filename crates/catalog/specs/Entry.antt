@@ -7,7 +7,7 @@ use Rattle.error.specs.Demand.{Demand, ◌otherwise◌, passing, demands}
 use Rattle.error.specs.Reason as reason
 use Rattle.octets.specs.Bytes.{byte_at}
 use Rattle.octets.specs.Number.{u16_at, u64_at}
-use Rattle.utf8.specs.Reading.{utf8}
+use Rattle.utf8.specs.Inside.{utf8}
 use Rattle.catalog.specs.Keys.{validate_owner_id}
 
 -- `validate_directory_entry`, READING-RULES 9.3: u64 at 0, the object that it names

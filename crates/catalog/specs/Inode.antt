@@ -12,7 +12,7 @@ use Rattle.error.specs.Demand.{Demand, ◌otherwise◌, passing, demands}
 use Rattle.error.specs.Reason as reason
 use Rattle.octets.specs.Bytes.{byte_at, part, bit, all_zero}
 use Rattle.octets.specs.Number.{u64_at}
-use Rattle.utf8.specs.Reading.{utf8}
+use Rattle.utf8.specs.Inside.{utf8}
 use Rattle.catalog.specs.Keys.{validate_owner_id}
 use Rattle.catalog.specs.Times.{validate_timestamp}
 

@@ -9,7 +9,7 @@ use Rattle.error.specs.Demand.{Demand, ◌otherwise◌, passing, outcome, demand
 use Rattle.error.specs.Reason as reason
 use Rattle.octets.specs.Bytes.{byte_at}
 use Rattle.octets.specs.Number.{big_at}
-use Rattle.utf8.specs.Reading.{utf8}
+use Rattle.utf8.specs.Inside.{utf8}
 
 -- 01, section 5: owner numbers run 1..2^63 - 2
 abbrev pub owner_demands : ℕ → Validation → List Demand

@@ -1,6 +1,8 @@
 -- The requests' statements hold.
 use Rattle.roots.proofs.Told.{root_told}
-use Rattle.claims.specs.Requests.{Request1}
+use Rattle.claims.specs.Requests.{Request1, Request2}
+use Rattle.utf8.proofs.Grammar.{utf8_is_grammar}
+use Rattle.utf8.proofs.Rows.{tests_are_rows, first_byte_tells, cut_in_one_way, rows_hold, same_as_std}
 use Rattle.paths.proofs.Down.{search_answers, eight_pages}
 use Rattle.paths.proofs.Nowhere.{none_means_nowhere, none_is_nowhere}
 use Rattle.paths.proofs.Exactly.{sentences_hold}
@@ -24,3 +26,6 @@ request_1 = record {
   callers = only_the_roots_page;
   own = own_classes;
 }
+
+pub request_2 : Request2
+request_2 = record { passes = utf8_is_grammar; cases = tests_are_rows; alone = first_byte_tells; one_way = cut_in_one_way; rows = rows_hold; std = same_as_std }

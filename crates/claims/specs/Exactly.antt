@@ -3,7 +3,7 @@ use Rattle.std.specs.Prelude.{◌≡◌, true, ◌↔◌, List, ℕ}
 use Rattle.crc.specs.Crc.{IsReflected}
 use Rattle.crc.specs.Pieces.{PiecesSum}
 use Rattle.utf8.specs.Rfc3629.{Utf8}
-use Rattle.utf8.specs.Reading.{utf8}
+use Rattle.utf8.specs.Inside.{utf8}
 use Rattle.roots.specs.Accept.{LabelExactly, RootExactly, RootTold}
 use Rattle.roots.specs.Choice.{ChoiceExactly}
 use Rattle.pages.specs.Accept.{PageExactly, PageAcceptedExactly}

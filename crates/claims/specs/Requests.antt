@@ -1,5 +1,8 @@
 -- 02: each ticket's sentences, a record for each.
-use Rattle.std.specs.Prelude.{ℕ, ◌≡◌, List, Ok}
+use Rattle.std.specs.Prelude.{ℕ, ◌≡◌, ◌↔◌, true, List, Ok}
+use Rattle.utf8.specs.Rfc3629.{Utf8}
+use Rattle.utf8.specs.Inside.{utf8}
+use Rattle.utf8.specs.Rows.{TestsAreRows, FirstByteTells, CutInOneWay, RowsHold, SameAsStd}
 use Rattle.volume.specs.declared.TreeKind.{TreeKind}
 use Rattle.root.specs.declared.Root.{Root}
 use Rattle.root.specs.Root.{root_decode}
@@ -41,3 +44,16 @@ pub record Request1 : Type 0 where
   -- ("No lent memory is written" needs no statement: image, key and UUID are lent as `&[u8]`.)
   -- "A page's refusal is passed on": it is of a class up to 6, so it is told from classes 7 and 8
   pub own : OwnClasses
+
+-- Ticket 2: "UTF-8 by the printed rows"
+pub record Request2 : Type 0 where
+  -- "A text passes as UTF-8 exactly when it is a sequence of these": `utf8` is what `is_utf8` answers (its clause `test`), and its clause `grammar` says the same of the function
+  pub passes : (s : List ℕ) → (utf8 s ≡ true) ↔ Utf8 s
+  -- "one printed alternative a case": each test is its own alternative and no other; no two overlap, and a text is a sequence of them in one way
+  pub cases : TestsAreRows
+  pub alone : FirstByteTells
+  pub one_way : CutInOneWay
+  -- "RFC 3629's syntax" (its section 4) by the table of section 3: each number U+0000..U+10FFFF but the surrogates has one character, and nothing else is one
+  pub rows : RowsHold
+  -- "no answer changes": a text passes exactly where the toolchain's promise of `str::from_utf8` has it pass; before this request `is_utf8` was held to the same grammar
+  pub std : SameAsStd

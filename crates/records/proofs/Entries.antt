@@ -15,7 +15,7 @@ use Rattle.error.proofs.Exactly.{all_hold, all_pass, given_exactly, passed_is, p
 use Rattle.error.proofs.Tests.{and_left, and_right, and_both}
 use Rattle.octets.specs.Bytes.{byte_at}
 use Rattle.octets.specs.Number.{u16_at, u32_at, u64_at, big_at}
-use Rattle.utf8.specs.Reading.{utf8}
+use Rattle.utf8.specs.Inside.{utf8}
 use Rattle.utf8.proofs.Grammar.{utf8_is_grammar}
 use Rattle.volume.specs.Blocks.{is_nonreserved_run}
 use Rattle.volume.specs.Numbers.{largest}

@@ -17,7 +17,7 @@ use Rattle.error.proofs.Exactly.{all_hold, all_pass, given_exactly, passed_is, p
 use Rattle.error.proofs.Tests.{and_left, and_right, and_both, or_first, or_second}
 use Rattle.octets.specs.Bytes.{byte_at}
 use Rattle.octets.specs.Number.{big_at}
-use Rattle.utf8.specs.Reading.{utf8}
+use Rattle.utf8.specs.Inside.{utf8}
 use Rattle.utf8.proofs.Grammar.{utf8_is_grammar}
 use Rattle.catalog.specs.Keys.{owner_demands, validate_owner_id, is_inode_key, is_entry_key, is_number_key, is_catalog_key, catalog_key_demands, validate_catalog_key}
 use Rattle.records.specs.Catalog.{OwnerHolds, KeyForm, KeyHolds}

@@ -3,8 +3,7 @@ use mathlib.Core.Path.{◌≡◌, refl}
 use mathlib.Core.Bool.{true}
 use Rattle.error.specs.Demand.{outcome, all_true}
 use Rattle.error.specs.Reason as reason
-use Rattle.utf8.specs.Reading.{read, utf8}
-use Rattle.utf8.specs.Plain.{plain}
+use Rattle.utf8.specs.Inside.{read, utf8, plain}
 use Rattle.root.specs.Label.{is_label, label_new}
 use Rattle.root.specs.Root.{check_place, check_block, root_decode}
 use Rattle.root.specs.Cases.{cases, RootAnswers, CasesHold}

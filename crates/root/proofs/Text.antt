@@ -11,8 +11,7 @@ use Rattle.octets.specs.Bytes.{part, padded_to, same_bytes}
 use Rattle.octets.specs.Number.{u16_at}
 use Rattle.octets.proofs.Join.{part_length}
 use Rattle.octets.proofs.Pad.{padded_whole}
-use Rattle.utf8.specs.Reading.{utf8}
-use Rattle.utf8.specs.Plain.{plain}
+use Rattle.utf8.specs.Inside.{utf8, plain}
 use Rattle.root.specs.Label.{dot, dots, is_label}
 use Rattle.root.specs.Root.{label_text}
 

@@ -5,8 +5,7 @@ use Rattle.error.specs.declared.Error.TheVariants.{InvalidInput}
 use Rattle.error.specs.Demand.{Demand, ◌otherwise◌, outcome}
 use Rattle.error.specs.Reason as reason
 use Rattle.octets.specs.Bytes.{padded_to, same_bytes}
-use Rattle.utf8.specs.Reading.{utf8}
-use Rattle.utf8.specs.Plain.{plain}
+use Rattle.utf8.specs.Inside.{utf8, plain}
 use Rattle.root.specs.declared.Label.{Label}
 
 -- section 3: the text `.`

@@ -10,7 +10,7 @@ use Rattle.error.specs.Reason as reason
 use Rattle.octets.specs.Bytes.{part, all_zero, starts_with}
 use Rattle.octets.specs.Number.{u16_at, u32_at, u64_at}
 use Rattle.crc.specs.Crc.{crc32c_with_zero}
-use Rattle.utf8.specs.Reading.{utf8}
+use Rattle.utf8.specs.Inside.{utf8}
 use Rattle.volume.specs.References.{ref_at, validate_root_slot}
 use Rattle.root.specs.Label.{is_label, label_of}
 use Rattle.root.specs.Fields.{validate_root_fields}

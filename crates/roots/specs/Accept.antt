@@ -7,24 +7,14 @@ use Rattle.crc.specs.Crc.{crc32c_with_zero}
 use Rattle.volume.specs.declared.TreeRef.{TreeRef}
 use Rattle.volume.specs.References.{ref_at}
 use Rattle.volume.specs.Accept.{TreeRefHolds}
-use Rattle.utf8.specs.Rfc3629.{Utf8-char, Utf8, number}
+use Rattle.utf8.specs.Rfc3629.{Utf8}
+use Rattle.utf8.specs.Plain.{HasCharacter, MayStand}
 use Rattle.root.specs.declared.Label.{Label}
 use Rattle.root.specs.declared.Root.{Root}
 use Rattle.root.specs.Label.{label_of, label_new}
 use Rattle.root.specs.Root.{root_of, root_decode}
 
 -- ---- labels
-
--- a text holds the character of this number (RFC 3629's characters, and section 3's numbers)
-pub data HasCharacter : ℕ → List ℕ → Type 0 where
-  here : {c : List ℕ} (s : List ℕ) → Utf8-char c → HasCharacter (number c) (c ++ s)
-  later : {p : ℕ} {c s : List ℕ} → Utf8-char c → HasCharacter p s → HasCharacter p (c ++ s)
-
--- section 3: a character that a label may hold: not `/`, not U+0000..U+001F, not U+007F..U+009F
-pub record MayStand (p : ℕ) : Type 0 where
-  pub no_slash : p ≡ 0x2F → ⊥
-  pub no_low : p ≤ 0x1F → ⊥
-  pub no_high : 0x7F ≤ p → p ≤ 0x9F → ⊥
 
 -- section 3: what holds of a label
 pub record LabelHolds (text : List ℕ) : Type 0 where

@@ -1,4 +1,5 @@
 pub mod Front
+pub mod Reading
 pub mod Grammar
 pub mod Plain
-pub mod Number
+pub mod Rows

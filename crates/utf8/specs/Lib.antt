@@ -1,4 +1,4 @@
 pub mod Rfc3629
-pub mod Reading
+pub mod Rows
 pub mod Plain
 pub mod Inside

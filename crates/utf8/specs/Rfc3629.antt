@@ -1,6 +1,7 @@
 -- RFC 3629, "UTF-8, a transformation format of ISO 10646". Section 4 has the syntax: one case here for each printed alternative,
--- in the order of the print. Section 3 has the number of a character.
-use Rattle.std.specs.Prelude.{ℕ, ◌+◌, ◌*◌, ◌%◌, ◌^◌, ◌≤◌, List, [], ◌∷◌, ◌++◌}
+-- in the order of the print and by the names that the code has (UTF8-tail first and UTF8-octets last, as they are used). Section 3 has the
+-- number of a character.
+use Rattle.std.specs.Prelude.{ℕ, ◌+◌, ◌*◌, ◌%◌, ◌^◌, ◌≤◌, ◌≡◌, List, [], ◌∷◌, ◌++◌}
 
 -- section 4, the form %xlo-hi: a byte from lo to hi
 pub record Byte (lo hi b : ℕ) : Type 0 where
@@ -18,21 +19,22 @@ pub data Utf8-char : List ℕ → Type 0 where
   --           UTF8-2      = %xC2-DF UTF8-tail
   utf8_2 : {a b : ℕ} → Byte 0xC2 0xDF a → Tail b → Utf8-char (a ∷ b ∷ [])
   --           UTF8-3      = %xE0 %xA0-BF UTF8-tail /
-  utf8_3_E0 : {b c : ℕ} → Byte 0xA0 0xBF b → Tail c → Utf8-char (0xE0 ∷ b ∷ c ∷ [])
+  utf8_3_e0 : {a b c : ℕ} → a ≡ 0xE0 → Byte 0xA0 0xBF b → Tail c → Utf8-char (a ∷ b ∷ c ∷ [])
   --                         %xE1-EC 2( UTF8-tail ) /
-  utf8_3_E1_EC : {a b c : ℕ} → Byte 0xE1 0xEC a → Tail b → Tail c → Utf8-char (a ∷ b ∷ c ∷ [])
+  utf8_3_e1_ec : {a b c : ℕ} → Byte 0xE1 0xEC a → Tail b → Tail c → Utf8-char (a ∷ b ∷ c ∷ [])
   --                         %xED %x80-9F UTF8-tail /
-  utf8_3_ED : {b c : ℕ} → Byte 0x80 0x9F b → Tail c → Utf8-char (0xED ∷ b ∷ c ∷ [])
+  utf8_3_ed : {a b c : ℕ} → a ≡ 0xED → Byte 0x80 0x9F b → Tail c → Utf8-char (a ∷ b ∷ c ∷ [])
   --                         %xEE-EF 2( UTF8-tail )
-  utf8_3_EE_EF : {a b c : ℕ} → Byte 0xEE 0xEF a → Tail b → Tail c → Utf8-char (a ∷ b ∷ c ∷ [])
+  utf8_3_ee_ef : {a b c : ℕ} → Byte 0xEE 0xEF a → Tail b → Tail c → Utf8-char (a ∷ b ∷ c ∷ [])
   --           UTF8-4      = %xF0 %x90-BF 2( UTF8-tail ) /
-  utf8_4_F0 : {b c d : ℕ} → Byte 0x90 0xBF b → Tail c → Tail d → Utf8-char (0xF0 ∷ b ∷ c ∷ d ∷ [])
+  utf8_4_f0 : {a b c d : ℕ} → a ≡ 0xF0 → Byte 0x90 0xBF b → Tail c → Tail d → Utf8-char (a ∷ b ∷ c ∷ d ∷ [])
   --                         %xF1-F3 3( UTF8-tail ) /
-  utf8_4_F1_F3 : {a b c d : ℕ} → Byte 0xF1 0xF3 a → Tail b → Tail c → Tail d → Utf8-char (a ∷ b ∷ c ∷ d ∷ [])
+  utf8_4_f1_f3 : {a b c d : ℕ} → Byte 0xF1 0xF3 a → Tail b → Tail c → Tail d → Utf8-char (a ∷ b ∷ c ∷ d ∷ [])
   --                         %xF4 %x80-8F 2( UTF8-tail )
-  utf8_4_F4 : {b c d : ℕ} → Byte 0x80 0x8F b → Tail c → Tail d → Utf8-char (0xF4 ∷ b ∷ c ∷ d ∷ [])
+  utf8_4_f4 : {a b c d : ℕ} → a ≡ 0xF4 → Byte 0x80 0x8F b → Tail c → Tail d → Utf8-char (a ∷ b ∷ c ∷ d ∷ [])
 
 -- section 4:  UTF8-octets = *( UTF8-char )
+-- (any number of characters, none too)
 pub data Utf8 : List ℕ → Type 0 where
   none : Utf8 []
   more : {c s : List ℕ} → Utf8-char c → Utf8 s → Utf8 (c ++ s)

@@ -1,68 +1,106 @@
 // UTF-8 (RFC 3629, section 4), and the characters of a label.
 #![tactic(auto)]
 
-ghost use Rattle.std.specs.Prelude.{◌≡◌, ℕ, take, Some};
-ghost use Rattle.utf8.specs.Reading.{◌from◌to◌, tail, one, two, three, four, utf8};
-ghost use Rattle.utf8.specs.Inside.{char_len};
-ghost use Rattle.utf8.specs.Rfc3629.{number};
-ghost use Rattle.utf8.specs.Plain.{allowed, plain};
+ghost use Rattle.std.specs.Prelude.{◌≡◌, ◌↔◌, IsTrue, ℕ, take, Some};
+ghost use Rattle.utf8.specs.Rfc3629.{Utf8, number};
+ghost use Rattle.utf8.specs.Plain.{HasCharacter, MayStand};
+ghost use Rattle.utf8.specs.Inside.{◌from◌to◌, tail, utf8_1, utf8_2, utf8_3_e0, utf8_3_e1_ec, utf8_3_ed, utf8_3_ee_ef, utf8_4_f0, utf8_4_f1_f3, utf8_4_f4, char_len, utf8, allowed, plain};
 
-// Whether a byte is a character: UTF8-1 as it is printed.
-fn is_one(a: u8) -> bool
-    ensures { result ≡ one a }
+// The form %xlo-hi: a byte from `lo` to `hi`.
+// Kept: bytes are lent, here and in the alternatives: a later one is then read only where those before it fit, which is quicker.
+fn is_from(b: &u8, lo: u8, hi: u8) -> bool
+    ensures { result ≡ (b.now from lo to hi) }
 {
-    a <= 0x7F
+    (lo..=hi).contains(b)
 }
 
-// Whether a byte is one of those from `lo` to `hi`.
-fn is_from(b: u8, lo: u8, hi: u8) -> bool
-    ensures { result ≡ (b from lo to hi) }
-{
-    (lo..=hi).contains(&b)
-}
-
-// Whether a byte is one that follows another in a character: UTF8-tail.
-fn is_tail(b: u8) -> bool
-    ensures { result ≡ tail b }
+// UTF8-tail   = %x80-BF
+fn is_tail(b: &u8) -> bool
+    ensures { result ≡ tail b.now }
 {
     is_from(b, 0x80, 0xBF)
 }
 
-// Whether two bytes are one: UTF8-2.
-fn is_two(a: u8, b: u8) -> bool
-    ensures { result ≡ two a b }
+// UTF8-1      = %x00-7F
+fn utf8_1(a: &u8) -> bool
+    ensures { result ≡ utf8_1 a.now }
+{
+    is_from(a, 0x00, 0x7F)
+}
+
+// UTF8-2      = %xC2-DF UTF8-tail
+fn utf8_2(a: &u8, b: &u8) -> bool
+    ensures { result ≡ utf8_2 a.now b.now }
 {
     is_from(a, 0xC2, 0xDF) && is_tail(b)
 }
 
-// Whether three bytes are one: UTF8-3.
-fn is_three(a: u8, b: u8, c: u8) -> bool
-    ensures { result ≡ three a b c }
+// UTF8-3      = %xE0 %xA0-BF UTF8-tail /
+fn utf8_3_e0(a: &u8, b: &u8, c: &u8) -> bool
+    ensures { result ≡ utf8_3_e0 a.now b.now c.now }
 {
-    a == 0xE0 && is_from(b, 0xA0, 0xBF) && is_tail(c)
-        || is_from(a, 0xE1, 0xEC) && is_tail(b) && is_tail(c)
-        || a == 0xED && is_from(b, 0x80, 0x9F) && is_tail(c)
-        || is_from(a, 0xEE, 0xEF) && is_tail(b) && is_tail(c)
+    *a == 0xE0 && is_from(b, 0xA0, 0xBF) && is_tail(c)
 }
 
-// Whether four bytes are one: UTF8-4.
-fn is_four(a: u8, b: u8, c: u8, d: u8) -> bool
-    ensures { result ≡ four a b c d }
+//               %xE1-EC 2( UTF8-tail ) /
+fn utf8_3_e1_ec(a: &u8, b: &u8, c: &u8) -> bool
+    ensures { result ≡ utf8_3_e1_ec a.now b.now c.now }
 {
-    a == 0xF0 && is_from(b, 0x90, 0xBF) && is_tail(c) && is_tail(d)
-        || is_from(a, 0xF1, 0xF3) && is_tail(b) && is_tail(c) && is_tail(d)
-        || a == 0xF4 && is_from(b, 0x80, 0x8F) && is_tail(c) && is_tail(d)
+    is_from(a, 0xE1, 0xEC) && is_tail(b) && is_tail(c)
 }
 
-// How many bytes the character at the front has; none where none starts there.
+//               %xED %x80-9F UTF8-tail /
+fn utf8_3_ed(a: &u8, b: &u8, c: &u8) -> bool
+    ensures { result ≡ utf8_3_ed a.now b.now c.now }
+{
+    *a == 0xED && is_from(b, 0x80, 0x9F) && is_tail(c)
+}
+
+//               %xEE-EF 2( UTF8-tail )
+fn utf8_3_ee_ef(a: &u8, b: &u8, c: &u8) -> bool
+    ensures { result ≡ utf8_3_ee_ef a.now b.now c.now }
+{
+    is_from(a, 0xEE, 0xEF) && is_tail(b) && is_tail(c)
+}
+
+// UTF8-4      = %xF0 %x90-BF 2( UTF8-tail ) /
+fn utf8_4_f0(a: &u8, b: &u8, c: &u8, d: &u8) -> bool
+    ensures { result ≡ utf8_4_f0 a.now b.now c.now d.now }
+{
+    *a == 0xF0 && is_from(b, 0x90, 0xBF) && is_tail(c) && is_tail(d)
+}
+
+//               %xF1-F3 3( UTF8-tail ) /
+fn utf8_4_f1_f3(a: &u8, b: &u8, c: &u8, d: &u8) -> bool
+    ensures { result ≡ utf8_4_f1_f3 a.now b.now c.now d.now }
+{
+    is_from(a, 0xF1, 0xF3) && is_tail(b) && is_tail(c) && is_tail(d)
+}
+
+//               %xF4 %x80-8F 2( UTF8-tail )
+fn utf8_4_f4(a: &u8, b: &u8, c: &u8, d: &u8) -> bool
+    ensures { result ≡ utf8_4_f4 a.now b.now c.now d.now }
+{
+    *a == 0xF4 && is_from(b, 0x80, 0x8F) && is_tail(c) && is_tail(d)
+}
+
+// UTF8-char   = UTF8-1 / UTF8-2 / UTF8-3 / UTF8-4
+// How many bytes the character at the front has, a case for each printed alternative; none where none starts there.
+// Kept: inlined by a hint: without it the loops below call it, which takes up to three times as long.
+#[inline(always)]
 fn char_len(s: &[u8]) -> Option<usize>
     ensures { result ≡ char_len s.now }
 {
     match s {
-        [a, ..] if is_one(*a) => Some(1),
-        [a, b, ..] if is_two(*a, *b) => Some(2),
-        [a, b, c, ..] if is_three(*a, *b, *c) => Some(3),
-        [a, b, c, d, ..] if is_four(*a, *b, *c, *d) => Some(4),
+        [a, ..] if utf8_1(a) => Some(1),
+        [a, b, ..] if utf8_2(a, b) => Some(2),
+        [a, b, c, ..] if utf8_3_e0(a, b, c) => Some(3),
+        [a, b, c, ..] if utf8_3_e1_ec(a, b, c) => Some(3),
+        [a, b, c, ..] if utf8_3_ed(a, b, c) => Some(3),
+        [a, b, c, ..] if utf8_3_ee_ef(a, b, c) => Some(3),
+        [a, b, c, d, ..] if utf8_4_f0(a, b, c, d) => Some(4),
+        [a, b, c, d, ..] if utf8_4_f1_f3(a, b, c, d) => Some(4),
+        [a, b, c, d, ..] if utf8_4_f4(a, b, c, d) => Some(4),
         _ => None,
     }
 }
@@ -81,10 +119,12 @@ fn behind_ascii(bytes: &[u8]) -> &[u8]
     rest
 }
 
+// UTF8-octets = *( UTF8-char )
+// Whether the bytes are UTF-8: a sequence of the nine alternatives that RFC 3629 prints.
 // Kept: not the library's `str::from_utf8`: the customer's second request has the rows that RFC 3629 prints ticked one by one in this code.
-// Whether the bytes are UTF-8.
 pub fn is_utf8(bytes: &[u8]) -> bool
-    ensures { result ≡ utf8 bytes.now }
+    ensures grammar { IsTrue result ↔ Utf8 bytes.now }
+    ensures test { result ≡ utf8 bytes.now }
 {
     let mut rest = behind_ascii(bytes);
     while let Some(n) = char_len(rest) {
@@ -104,7 +144,8 @@ fn is_front_allowed(s: &[u8]) -> bool
 
 // Whether each character, as far as the bytes are UTF-8, is one that a label may hold.
 pub fn is_plain(bytes: &[u8]) -> bool
-    ensures { result ≡ plain bytes.now }
+    ensures characters { IsTrue result ↔ ((p : ℕ) → HasCharacter p bytes.now → MayStand p) }
+    ensures test { result ≡ plain bytes.now }
 {
     let mut rest = bytes;
     while let Some(n) = char_len(rest) {

@@ -1,4 +1,6 @@
-// UTF-8 cases: a line for each with the bytes in hex, 1 or 0 for `is_utf8`, and 1 or 0 for `is_plain`.
+// UTF-8 cases: a line for each with the bytes in hex, 1 or 0 for `is_utf8`, and 1 or 0 for `is_plain`. Then all strings of up to three bytes
+// and borders of four, a line for each first byte: `length`, the strings' length, the first byte, how many are UTF-8, how many are plain, and
+// the CRC-32C of the answers in the order of the strings, each a byte: 1 for UTF-8, and 2 for plain.
 #![tactic(auto)]
 
 use std::io;
@@ -156,9 +158,82 @@ const CASES: [&[u8]; 124] = [
     b"\x00a\xFF",
 ];
 
+// Each border of a range that a row has, from inside and from outside.
+const BORDERS: [u8; 12] = [
+    0x00, 0x7F, 0x80, 0x8F, 0x90, 0x9F, 0xA0, 0xBF, 0xC0, 0xED, 0xF4, 0xFF,
+];
+
+// What was answered so far: how many strings are UTF-8 and how many are plain, and the register of the checksum over the answers.
+#[derive(Clone, Copy)]
+struct Tally {
+    texts: u32,
+    plain: u32,
+    register: u32,
+}
+
+impl Tally {
+    const NONE: Tally = Tally {
+        texts: 0,
+        plain: 0,
+        register: 0xFFFF_FFFF,
+    };
+
+    // The answers for one more string are counted.
+    fn with(self, bytes: &[u8]) -> Tally {
+        let text = utf8::is_utf8(bytes);
+        let plain = utf8::is_plain(bytes);
+        let answer = u8::from(text) + 2 * u8::from(plain);
+        Tally {
+            texts: self.texts.saturating_add(u32::from(text)),
+            plain: self.plain.saturating_add(u32::from(plain)),
+            register: crc::software_extend(self.register, &[answer]),
+        }
+    }
+
+    fn print(self, rt: &HostRuntime, length: u8, first: u8) -> io::Result<()> {
+        let word = !self.register;
+        println!(rt;
+            "length {length} x{first:02x} {} {} {word:08x}",
+            self.texts, self.plain
+        )
+    }
+}
+
+// All strings of two bytes that begin with this one; and of three that begin with these two.
+fn all_pairs(a: u8) -> Tally {
+    (0..=255).fold(Tally::NONE, |t, b| t.with(&[a, b]))
+}
+
+fn all_triples(t: Tally, a: u8, b: u8) -> Tally {
+    (0..=255).fold(t, |t, c| t.with(&[a, b, c]))
+}
+
+// The strings of four bytes that begin with these, the others being borders.
+fn border_fours(t: Tally, a: u8, b: u8, c: u8) -> Tally {
+    BORDERS.iter().fold(t, |t, d| t.with(&[a, b, c, *d]))
+}
+
+fn border_triples(t: Tally, a: u8, b: u8) -> Tally {
+    BORDERS.iter().fold(t, |t, c| border_fours(t, a, b, *c))
+}
+
+fn print_all(rt: &HostRuntime, a: u8) -> io::Result<()> {
+    let triples = (0..=255).fold(Tally::NONE, |t, b| all_triples(t, a, b));
+    let fours = BORDERS
+        .iter()
+        .fold(Tally::NONE, |t, b| border_triples(t, a, *b));
+    Tally::NONE.with(&[a]).print(rt, 1, a)?;
+    all_pairs(a).print(rt, 2, a)?;
+    triples.print(rt, 3, a)?;
+    fours.print(rt, 4, a)
+}
+
 fn run(rt: &HostRuntime) -> io::Result<()> {
     for case in &CASES {
         print_case(rt, case)?;
+    }
+    for a in 0..=255 {
+        print_all(rt, a)?;
     }
     Ok(())
 }

@@ -544,3 +544,48 @@ fn whole_trees_are_found() {
     }
     assert!(found[1..].iter().all(|count| *count > 100), "{found:?}");
 }
+
+/// 1 for UTF-8, and 2 where each character, as far as the bytes are UTF-8, is one that a label may hold: the core's tests.
+fn answer_to_text(bytes: &[u8]) -> u8 {
+    let text = std::str::from_utf8(bytes);
+    let end = text.map_or_else(|e| e.valid_up_to(), str::len);
+    let plain = std::str::from_utf8(&bytes[..end]).unwrap().chars().all(|c| c != '/' && !c.is_control());
+    u8::from(text.is_ok()) + 2 * u8::from(plain)
+}
+
+/// What utf8_cases is recorded to print is what the core's `from_utf8` says: each case by itself, then all strings of up to three bytes, and
+/// borders of four.
+#[test]
+fn recorded_utf8_cases() {
+    let recorded = include_str!("../../../crates/utf8_cases/stdout");
+    let (all, cases): (Vec<&str>, Vec<&str>) = recorded.lines().partition(|line| line.starts_with("length "));
+    assert!(cases.len() > 100);
+    for line in cases {
+        let words: Vec<&str> = line.split(' ').collect();
+        let digits = words[0].strip_prefix('x').unwrap();
+        let byte = |at| u8::from_str_radix(&digits[at..at + 2], 16).unwrap();
+        let bytes: Vec<u8> = (0..digits.len()).step_by(2).map(byte).collect();
+        let answer = answer_to_text(&bytes);
+        assert_eq!(words[1..], [(answer & 1).to_string(), (answer >> 1).to_string()], "{line}");
+    }
+    let borders = [0x00, 0x7F, 0x80, 0x8F, 0x90, 0x9F, 0xA0, 0xBF, 0xC0, 0xED, 0xF4, 0xFF];
+    let every: Vec<u8> = (0..=255).collect();
+    let mut lines = all.into_iter();
+    for a in 0..=255 {
+        for (length, others) in [(1, &[][..]), (2, &every), (3, &every), (4, &borders)] {
+            let (mut counts, mut register) = ([0, 0], !0);
+            for place in 0..others.len().pow(length - 1) {
+                let at = |digit: u32| others[place / others.len().pow(digit) % others.len()];
+                let mut bytes = vec![a];
+                bytes.extend((0..length - 1).rev().map(at));
+                let answer = answer_to_text(&bytes);
+                counts[0] += u32::from(answer & 1);
+                counts[1] += u32::from(answer >> 1);
+                register = reference::crc::extend(register, &[answer]);
+            }
+            let due = format!("length {length} x{a:02x} {} {} {:08x}", counts[0], counts[1], !register);
+            assert_eq!(lines.next(), Some(due.as_str()));
+        }
+    }
+    assert_eq!(lines.next(), None);
+}

@@ -1,4 +1,4 @@
-use Rattle.utf8.proofs.Front.{ascii_go}
+use Rattle.utf8.proofs.Grammar.{ascii_go}
 use Rattle.utf8.proofs.behind_ascii.Goals as goal
 
 pub loop-eight-preserved : goal.loop-eight-preserved

@@ -1,6 +1,6 @@
 use mathlib.Core.Path.{◌≡◌}
 use lib.ListN.{length}
-use Rattle.utf8.specs.Reading.{utf8}
+use Rattle.utf8.specs.Inside.{utf8}
 use Rattle.utf8.proofs.behind_ascii.Given as goal
 
 abbrev pub invariant-loop-eight : goal.invariant-loop-eight

@@ -1,6 +1,6 @@
 use mathlib.Core.Path.{◌≡◌}
 use lib.ListN.{length}
-use Rattle.utf8.specs.Plain.{plain}
+use Rattle.utf8.specs.Inside.{plain}
 use Rattle.utf8.proofs.is_plain.Given as goal
 
 abbrev pub invariant-loop-n : goal.invariant-loop-n

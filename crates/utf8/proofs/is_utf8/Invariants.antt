@@ -1,6 +1,6 @@
 use mathlib.Core.Path.{◌≡◌}
 use lib.ListN.{length}
-use Rattle.utf8.specs.Reading.{utf8}
+use Rattle.utf8.specs.Inside.{utf8}
 use Rattle.utf8.proofs.is_utf8.Given as goal
 
 abbrev pub invariant-loop-n : goal.invariant-loop-n
